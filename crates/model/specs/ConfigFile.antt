@@ -1,0 +1,226 @@
+-- Document 01, 'Line file' and questions 1 to 6: the configuration that a file tells, or the first refusal.
+use Prim.Native.Nat.{ℕ, zero, suc, _+_, _*_}
+use mathlib.Core.List.{List}
+use mathlib.Core.Bool.{Bool, true, false, not, cond, _&&_, _||_}
+use lib.ListN.{length, getD, set}
+use lib.Dec.{leb, eqb}
+use Rattle.model.specs.Base.{all, every}
+use Rattle.model.specs.Number.{numberAt}
+use Rattle.model.specs.Config.{
+  mostDrivers,
+  mostDevices,
+  mostObjects,
+  mostValues,
+  mostEntries,
+  mostKind,
+  mostClass,
+  mostMode,
+  entryPlace,
+  blankObjects,
+  blankDevices,
+  blankValues,
+  blank,
+  kindOf,
+  classOf,
+  hardcodedOf,
+  owns,
+  hardcodedTo,
+  Entry,
+  entries,
+}
+use Rattle.model.specs.declared.Fault.{Fault}
+use Rattle.model.specs.declared.Fault.the-variants.{Cut, Form}
+use Rattle.model.specs.declared.Num.{Num}
+use Rattle.model.specs.declared.Num.the-variants.{Got, Bad}
+use Rattle.model.specs.declared.Field.{Field}
+use Rattle.model.specs.declared.Field.the-variants.{Value, No}
+use Rattle.model.specs.declared.Reading.{Reading}
+use Rattle.model.specs.declared.Reading.the-variants.{At, Refused}
+use Rattle.model.specs.declared.Head.{Head}
+use Rattle.model.specs.declared.Head.the-variants.{Counted, Stopped}
+use Rattle.model.specs.declared.Counts.{Counts}
+use Rattle.model.specs.declared.Objects.{Objects}
+use Rattle.model.specs.declared.Devices.{Devices}
+use Rattle.model.specs.declared.Values.{Values}
+use Rattle.model.specs.declared.Config.{Config}
+use Rattle.model.specs.declared.Loaded.{Loaded}
+
+-- the question, 1 or 2, that a number answers with no
+abbrev pub numQuestion : Num → ℕ
+numQuestion (Got v next) = 0
+numQuestion (Bad Cut) = 1
+numQuestion (Bad Form) = 2
+
+-- for each number 1, then 2, then 3: is it in its field's range?
+unfoldable pub ranged : ℕ → ℕ → Num → Field
+ranged low high (Got v next) = cond (leb low v && leb v high) (Value v next) (No 3)
+ranged low high (Bad f) = No (numQuestion (Bad f))
+
+unfoldable pub fieldAt : List ℕ → ℕ → ℕ → ℕ → Field
+fieldAt s at low high = ranged low high (numberAt s at)
+
+-- the question of a field, a reading or counts that are refused
+abbrev pub fieldQuestion : Field → ℕ
+fieldQuestion (Value v next) = 0
+fieldQuestion (No q) = q
+
+abbrev pub readingQuestion : Reading → ℕ
+readingQuestion (At next) = 0
+readingQuestion (Refused q) = q
+
+abbrev pub headQuestion : Head → ℕ
+headQuestion (Counted n next) = 0
+headQuestion (Stopped q) = q
+
+-- the number and the next place go on to what follows, or the first number that fails decides
+unfoldable pub onField : {R : Type 0} → (ℕ → R) → Field → (ℕ → ℕ → R) → R
+onField stop (Value v next) k = k v next
+onField stop (No q) k = stop q
+
+-- how far a table is read, and what it then holds
+pub record Progress (T : Type 0) : Type 0 where
+  pub reading : Reading
+  pub table : T
+
+unfoldable pub read : {T : Type 0} → T → ℕ → Progress T
+read t at = record { reading = At at; table = t }
+
+unfoldable pub stop : {T : Type 0} → T → ℕ → Progress T
+stop t q = record { reading = Refused q; table = t }
+
+unfoldable pub onReading : {R : Type 0} → (ℕ → R) → Reading → (ℕ → R) → R
+onReading stop (At next) k = k next
+onReading stop (Refused q) k = stop q
+
+-- a body for each of the n numbers after i, in order; the first refusal ends them
+unfoldable pub turns : {T : Type 0} → (ℕ → ℕ → T → Progress T) → ℕ → ℕ → ℕ → T → Progress T
+turns f zero i at t = read t at
+turns f (suc n) i at t =
+    let p = f (i + 1) at t in
+    onReading (stop (p .table)) (p .reading) (λ next. turns f n (i + 1) next (p .table))
+
+-- edition, 1; drivers D, cards V, objects N, values K
+unfoldable pub countsAt : List ℕ → Head
+countsAt s =
+    onField Stopped (fieldAt s 0 1 1) λ edition a.
+    onField Stopped (fieldAt s a 0 mostDrivers) λ d b.
+    onField Stopped (fieldAt s b 0 mostDevices) λ v c.
+    onField Stopped (fieldAt s c 0 mostObjects) λ n e.
+    onField Stopped (fieldAt s e 0 mostValues) λ k next.
+    Counted (record { drivers = d; devices = v; objects = n; values = k }) next
+
+-- the range of an owner's number by the owner's class: 0, 1 to D, or 1 to V
+unfoldable pub ownerLeast : ℕ → ℕ
+ownerLeast class = cond (eqb class 0) 0 1
+
+unfoldable pub ownerMost : Counts → ℕ → ℕ
+ownerMost counts class = cond (eqb class 0) 0 (cond (eqb class 1) (counts .drivers) (counts .devices))
+
+unfoldable pub setObject : Objects → ℕ → ℕ → ℕ → ℕ → Objects
+setObject t o kind class owner =
+    record { kind = set (t .kind) o kind; class = set (t .class) o class; owner = set (t .owner) o owner }
+
+-- object o: kind; owner class; owner number
+unfoldable pub object : List ℕ → Counts → ℕ → ℕ → Objects → Progress Objects
+object s counts o at t =
+    onField (stop t) (fieldAt s at 1 mostKind) λ kind a.
+    onField (stop t) (fieldAt s a 0 mostClass) λ class b.
+    onField (stop t) (fieldAt s b (ownerLeast class) (ownerMost counts class)) λ owner next.
+    read (setObject t o kind class owner) next
+
+unfoldable pub setDevice : Devices → ℕ → ℕ → Devices
+setDevice t v w = record { hardcoded = set (t .hardcoded) v w }
+
+-- device v: the value number 0 to K of its hardcoded descriptor
+unfoldable pub device : List ℕ → Counts → ℕ → ℕ → Devices → Progress Devices
+device s counts v at t =
+    onField (stop t) (fieldAt s at 0 (counts .values)) λ w next.
+    read (setDevice t v w) next
+
+-- a stored value must be 0 unless the object is of kind 1 and the mode is 2 or 3
+unfoldable pub storedMost : Counts → Objects → ℕ → ℕ → ℕ
+storedMost counts objects o mode = cond (eqb (getD (objects .kind) o 0) 1 && leb 2 mode) (counts .values) 0
+
+unfoldable pub setEntry : Values → ℕ → ℕ → ℕ → ℕ → Values
+setEntry t place o mode w =
+    record { count = t .count; entries = set (set (set (t .entries) place o) (place + 1) mode) (place + 2) w }
+
+-- entry j, from 1, of value v: object, mode, stored value
+unfoldable pub entry : List ℕ → Counts → Objects → ℕ → ℕ → ℕ → Values → Progress Values
+entry s counts objects v j at t =
+    onField (stop t) (fieldAt s at 1 (counts .objects)) λ o a.
+    onField (stop t) (fieldAt s a 1 mostMode) λ mode b.
+    onField (stop t) (fieldAt s b 0 (storedMost counts objects o mode)) λ w next.
+    read (setEntry t (entryPlace v j) o mode w) next
+
+unfoldable pub setCount : Values → ℕ → ℕ → Values
+setCount t v n = record { count = set (t .count) v n; entries = t .entries }
+
+-- value v: entry count 0 to 6; then each entry
+unfoldable pub value : List ℕ → Counts → Objects → ℕ → ℕ → Values → Progress Values
+value s counts objects v at t =
+    onField (stop t) (fieldAt s at 0 mostEntries) λ n next.
+    turns (entry s counts objects v) n 0 next (setCount t v n)
+
+-- objects 1 to N, devices 1 to V, values 1 to K
+unfoldable pub objectsAt : List ℕ → Counts → ℕ → Progress Objects
+objectsAt s counts at = turns (object s counts) (counts .objects) 0 at blankObjects
+
+unfoldable pub devicesAt : List ℕ → Counts → ℕ → Progress Devices
+devicesAt s counts at = turns (device s counts) (counts .devices) 0 at blankDevices
+
+unfoldable pub valuesAt : List ℕ → Counts → Objects → ℕ → Progress Values
+valuesAt s counts objects at = turns (value s counts objects) (counts .values) 0 at blankValues
+
+-- how many of the objects 1 to n pass
+abbrev pub howMany : ℕ → (ℕ → Bool) → ℕ
+howMany zero p = 0
+howMany (suc n) p = howMany n p + cond (p (suc n)) 1 0
+
+-- question 5: each device has exactly one kind 4 object, and each kind 4 object a device as owner
+unfoldable pub paired : Config → Bool
+paired config =
+    every (config .counts .devices) (λ c. eqb (howMany (config .counts .objects) (hardcodedTo config c)) 1)
+    && every (config .counts .objects) (λ n. not (eqb (kindOf config n) 4) || eqb (classOf config n) 2)
+
+-- an entry that the hardcoded value of device c may have
+abbrev pub ownEntry : Config → ℕ → Entry → Bool
+ownEntry config c e =
+    owns config 2 c (e .object) && not (eqb (kindOf config (e .object)) 4)
+    && (not (eqb (kindOf config (e .object)) 1) || eqb (e .mode) 1)
+
+-- question 6: each hardcoded value names only its own device's objects, none of kind 4, and kind 1 by mode 1 only
+unfoldable pub restrained : Config → Bool
+restrained config =
+    every (config .counts .devices) (λ c. all (ownEntry config c) (entries config (hardcodedOf config c)))
+
+unfoldable pub accepted : Config → Loaded
+accepted config = record { answer = 0; config = config }
+
+unfoldable pub refused : ℕ → Loaded
+refused q = record { answer = q; config = blank }
+
+-- the rest, if the question is answered with yes; else its number
+unfoldable pub ask : ℕ → Bool → Loaded → Loaded
+ask q true rest = rest
+ask q false rest = refused q
+
+-- question 4: is nothing left over? Then 5, then 6
+unfoldable pub judged : List ℕ → ℕ → Config → Loaded
+judged s at config = ask 4 (eqb at (length s)) (ask 5 (paired config) (ask 6 (restrained config) (accepted config)))
+
+-- a whole group is read, or its refusal decides
+unfoldable pub afterCounts : Head → (Counts → ℕ → Loaded) → Loaded
+afterCounts (Counted n next) k = k n next
+afterCounts (Stopped q) k = refused q
+
+unfoldable pub afterGroup : {T : Type 0} → Progress T → (T → ℕ → Loaded) → Loaded
+afterGroup p k = onReading refused (p .reading) (k (p .table))
+
+unfoldable pub load : List ℕ → Loaded
+load s =
+    afterCounts (countsAt s) λ counts a.
+    afterGroup (objectsAt s counts a) λ objects b.
+    afterGroup (devicesAt s counts b) λ devices c.
+    afterGroup (valuesAt s counts objects c) λ values d.
+    judged s d (record { counts = counts; objects = objects; devices = devices; values = values })

@@ -1,0 +1,4 @@
+pub mod Base
+pub mod Number
+pub mod Config
+pub mod ConfigFile

@@ -1,0 +1,49 @@
+-- Document 01, 'Line file' and questions 1 and 2: numbers in groups of seven bits, lowest group first; every byte but
+-- a number's last has 128 added; shortest form only.
+use Prim.Native.Nat.{ℕ, zero, suc, _+_, _*_, _/_, _%_}
+use mathlib.Core.List.{List, [], _∷_}
+use mathlib.Core.Bool.{Bool, cond, _&&_, _||_}
+use lib.ListN.{length, getD, drop}
+use lib.Dec.{ltb, leb, eqb}
+use Rattle.model.specs.declared.Fault.{Fault}
+use Rattle.model.specs.declared.Fault.the-variants.{Cut, Form}
+use Rattle.model.specs.declared.Num.{Num}
+use Rattle.model.specs.declared.Num.the-variants.{Got, Bad}
+
+-- the largest number, and how many bytes one has at most
+abbrev pub mostNumber : ℕ
+mostNumber = 65535
+
+abbrev pub mostBytes : ℕ
+mostBytes = 3
+
+-- how many bytes from the head on have 128 added, up to the first that has not
+unfoldable pub lead : List ℕ → ℕ
+lead [] = 0
+lead (b ∷ s) = cond (ltb b 128) 0 (suc (lead s))
+
+-- the value of the number at the head, with n bytes before its last
+unfoldable pub valueOf : List ℕ → ℕ → ℕ
+valueOf [] n = 0
+valueOf (b ∷ t) zero = b
+valueOf (b ∷ t) (suc n) = b % 128 + 128 * valueOf t n
+
+-- a last byte of 0 is allowed only where it is the sole byte
+unfoldable pub shortest : List ℕ → ℕ → Bool
+shortest t n = eqb n 0 || ltb 0 (getD t n 0)
+
+-- question 2: at most three bytes, shortest form, at most the largest number
+unfoldable pub formed : List ℕ → ℕ → Bool
+formed t n = ltb n mostBytes && shortest t n && leb (valueOf t n) mostNumber
+
+-- the number at the head of t, which stands at `at`, with n bytes before its last
+unfoldable pub formAt : ℕ → List ℕ → ℕ → Num
+formAt at t n = cond (formed t n) (Got (valueOf t n) (at + n + 1)) (Bad Form)
+
+-- question 1: without a last byte a number is cut, however long it is
+unfoldable pub headAt : ℕ → List ℕ → Num
+headAt at t = cond (ltb (lead t) (length t)) (formAt at t (lead t)) (Bad Cut)
+
+-- the number at a place of s
+unfoldable pub numberAt : List ℕ → ℕ → Num
+numberAt s at = headAt at (drop at s)

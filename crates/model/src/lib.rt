@@ -1,0 +1,108 @@
+// The types that the definitions of document 01 and the code share. What they mean stands in specs/.
+
+ghost use mathlib.Core.Path.{_≡_};
+ghost use Rattle.model.specs.Config.{entryPlace};
+
+// The limits of a configuration (document 01, 'Line file'), and how many bytes a number has at most.
+pub const MOST_DRIVERS: u8 = 16;
+
+pub const MOST_DEVICES: u8 = 16;
+
+pub const MOST_OBJECTS: u8 = 96;
+
+pub const MOST_VALUES: u8 = 47;
+
+pub const MOST_ENTRIES: u8 = 6;
+
+pub const MOST_NUMBER: usize = 65535;
+
+pub const MOST_BYTES: usize = 3;
+
+// A table has one place more than the largest number, so that number n stands at place n.
+pub const DEVICE_SLOTS: usize = MOST_DEVICES as usize + 1;
+
+pub const OBJECT_SLOTS: usize = MOST_OBJECTS as usize + 1;
+
+pub const VALUE_SLOTS: usize = MOST_VALUES as usize + 1;
+
+// An entry takes three bytes: object, mode, stored value. Entry j, from 1, of value v is entry 6 * v + j of the table.
+pub const ENTRY_BYTES: usize = 3;
+
+pub const ENTRY_SLOTS: usize = ENTRY_BYTES * (MOST_ENTRIES as usize * VALUE_SLOTS + 1);
+
+// Why the bytes at a place are no number.
+pub enum Fault {
+    // No last byte.
+    Cut,
+    // More than three bytes, not the shortest form, or above the largest number.
+    Form,
+}
+
+// The number at a place, with the place after it.
+pub enum Num {
+    Got(usize, usize),
+    Bad(Fault),
+}
+
+// A number of the configuration file in its field's range, with the place after it; or the question, 1 to 3, that it
+// answers with no.
+pub enum Field {
+    Value(u8, usize),
+    No(u8),
+}
+
+// How far the file is read: up to a place; or the question that ended it.
+pub enum Reading {
+    At(usize),
+    Refused(u8),
+}
+
+pub struct Counts {
+    pub drivers: u8,
+    pub devices: u8,
+    pub objects: u8,
+    pub values: u8,
+}
+
+// The counts, with the place after them; or the question that ended the reading.
+pub enum Head {
+    Counted(Counts, usize),
+    Stopped(u8),
+}
+
+// Columns by the number of the object, device or value; place 0 names none.
+pub struct Objects {
+    pub kind: [u8; OBJECT_SLOTS],
+    pub class: [u8; OBJECT_SLOTS],
+    pub owner: [u8; OBJECT_SLOTS],
+}
+
+pub struct Devices {
+    pub hardcoded: [u8; DEVICE_SLOTS],
+}
+
+pub struct Values {
+    pub count: [u8; VALUE_SLOTS],
+    pub entries: [u8; ENTRY_SLOTS],
+}
+
+// What a configuration file tells (document 01: line).
+pub struct Config {
+    pub counts: Counts,
+    pub objects: Objects,
+    pub devices: Devices,
+    pub values: Values,
+}
+
+// 0 and the configuration; or the first question that is answered with no, beside a blank configuration.
+pub struct Loaded {
+    pub answer: u8,
+    pub config: Config,
+}
+
+// Where entry j, from 1, of value v begins in the table of entries.
+pub fn entry_place(v: u8, j: u8) -> usize
+    ensures { λ r. ⌜ r ≡ entryPlace v j ⌝ }
+{
+    ENTRY_BYTES * ((MOST_ENTRIES as usize) * (v as usize) + (j as usize))
+}
