@@ -137,30 +137,30 @@ device s counts v at t =
     onField (stop t) (fieldAt s at 0 (counts .values)) λ w next.
     read (setDevice t v w) next
 
--- a stored value must be 0 unless the object is of kind 1 and the mode is 2 or 3
-unfoldable pub storedMost : Counts → Objects → ℕ → ℕ → ℕ
-storedMost counts objects o mode = cond (eqb (getD (objects .kind) o 0) 1 && leb 2 mode) (counts .values) 0
+-- a stored value must be 0 unless the object is of kind 1 and the mode is 2 or 3; `kinds` is the column of kinds
+unfoldable pub storedMost : Counts → List ℕ → ℕ → ℕ → ℕ
+storedMost counts kinds o mode = cond (eqb (getD kinds o 0) 1 && leb 2 mode) (counts .values) 0
 
 unfoldable pub setEntry : Values → ℕ → ℕ → ℕ → ℕ → Values
 setEntry t place o mode w =
     record { count = t .count; entries = set (set (set (t .entries) place o) (place + 1) mode) (place + 2) w }
 
 -- entry j, from 1, of value v: object, mode, stored value
-unfoldable pub entry : List ℕ → Counts → Objects → ℕ → ℕ → ℕ → Values → Progress Values
-entry s counts objects v j at t =
+unfoldable pub entry : List ℕ → Counts → List ℕ → ℕ → ℕ → ℕ → Values → Progress Values
+entry s counts kinds v j at t =
     onField (stop t) (fieldAt s at 1 (counts .objects)) λ o a.
     onField (stop t) (fieldAt s a 1 mostMode) λ mode b.
-    onField (stop t) (fieldAt s b 0 (storedMost counts objects o mode)) λ w next.
+    onField (stop t) (fieldAt s b 0 (storedMost counts kinds o mode)) λ w next.
     read (setEntry t (entryPlace v j) o mode w) next
 
 unfoldable pub setCount : Values → ℕ → ℕ → Values
 setCount t v n = record { count = set (t .count) v n; entries = t .entries }
 
 -- value v: entry count 0 to 6; then each entry
-unfoldable pub value : List ℕ → Counts → Objects → ℕ → ℕ → Values → Progress Values
-value s counts objects v at t =
+unfoldable pub value : List ℕ → Counts → List ℕ → ℕ → ℕ → Values → Progress Values
+value s counts kinds v at t =
     onField (stop t) (fieldAt s at 0 mostEntries) λ n next.
-    turns (entry s counts objects v) n 0 next (setCount t v n)
+    turns (entry s counts kinds v) n 0 next (setCount t v n)
 
 -- objects 1 to N, devices 1 to V, values 1 to K
 unfoldable pub objectsAt : List ℕ → Counts → ℕ → Progress Objects
@@ -169,8 +169,8 @@ objectsAt s counts at = turns (object s counts) (counts .objects) 0 at blankObje
 unfoldable pub devicesAt : List ℕ → Counts → ℕ → Progress Devices
 devicesAt s counts at = turns (device s counts) (counts .devices) 0 at blankDevices
 
-unfoldable pub valuesAt : List ℕ → Counts → Objects → ℕ → Progress Values
-valuesAt s counts objects at = turns (value s counts objects) (counts .values) 0 at blankValues
+unfoldable pub valuesAt : List ℕ → Counts → List ℕ → ℕ → Progress Values
+valuesAt s counts kinds at = turns (value s counts kinds) (counts .values) 0 at blankValues
 
 -- how many of the objects 1 to n pass
 abbrev pub howMany : ℕ → (ℕ → Bool) → ℕ
@@ -217,10 +217,14 @@ afterCounts (Stopped q) k = refused q
 unfoldable pub afterGroup : {T : Type 0} → Progress T → (T → ℕ → Loaded) → Loaded
 afterGroup p k = onReading refused (p .reading) (k (p .table))
 
+-- what follows the counts
+unfoldable pub groupsFrom : List ℕ → Counts → ℕ → Loaded
+groupsFrom s counts at =
+    afterGroup (objectsAt s counts at) λ objects a.
+    afterGroup (devicesAt s counts a) λ devices b.
+    afterGroup (valuesAt s counts (objects .kind) b) λ values end.
+    judged s end (record { counts = counts; objects = objects; devices = devices; values = values })
+
+-- the configuration that a file tells, with answer 0; or the first question answered with no
 unfoldable pub load : List ℕ → Loaded
-load s =
-    afterCounts (countsAt s) λ counts a.
-    afterGroup (objectsAt s counts a) λ objects b.
-    afterGroup (devicesAt s counts b) λ devices c.
-    afterGroup (valuesAt s counts objects c) λ values d.
-    judged s d (record { counts = counts; objects = objects; devices = devices; values = values })
+load s = afterCounts (countsAt s) (groupsFrom s)

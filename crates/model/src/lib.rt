@@ -14,6 +14,13 @@ pub const MOST_VALUES: u8 = 47;
 
 pub const MOST_ENTRIES: u8 = 6;
 
+// The largest kind, owner's class and mode.
+pub const MOST_KIND: u8 = 4;
+
+pub const MOST_CLASS: u8 = 2;
+
+pub const MOST_MODE: u8 = 3;
+
 pub const MOST_NUMBER: usize = 65535;
 
 pub const MOST_BYTES: usize = 3;

@@ -1,0 +1,29 @@
+-- The groups of a configuration as the columns that the readers are lent.
+use Prim.Native.Nat.{ℕ, _≤_}
+use mathlib.Core.List.{List}
+use Rattle.model.specs.Config.{mostDevices, mostObjects, mostValues}
+use Rattle.model.specs.ConfigFile.{Progress}
+use Rattle.model.specs.declared.Reading.{Reading}
+use Rattle.model.specs.declared.Counts.{Counts}
+use Rattle.model.specs.declared.Objects.{Objects}
+use Rattle.model.specs.declared.Devices.{Devices}
+use Rattle.model.specs.declared.Values.{Values}
+
+abbrev pub objectsOf : List ℕ → List ℕ → List ℕ → Objects
+objectsOf kind class owner = record { kind = kind; class = class; owner = owner }
+
+abbrev pub devicesOf : List ℕ → Devices
+devicesOf hardcoded = record { hardcoded = hardcoded }
+
+abbrev pub valuesOf : List ℕ → List ℕ → Values
+valuesOf count entries = record { count = count; entries = entries }
+
+-- what a reader answers, and what the columns then hold
+abbrev pub progress : {T : Type 0} → Reading → T → Progress T
+progress r t = record { reading = r; table = t }
+
+-- the counts are within the columns
+pub record Within (counts : Counts) : Type 0 where
+  pub devices : counts .devices ≤ mostDevices
+  pub objects : counts .objects ≤ mostObjects
+  pub values : counts .values ≤ mostValues

@@ -1,0 +1,65 @@
+// One number of the file in its field's range, and the question of what is refused.
+ghost use mathlib.Core.Path.{_≡_};
+ghost use Rattle.model.specs.ConfigFile.{numQuestion, fieldAt, fieldQuestion, readingQuestion, headQuestion};
+use model::Fault;
+use model::Field;
+use model::Head;
+use model::Num;
+use model::Reading;
+
+// Question 1 or 2, which a number answers with no.
+fn num_question(n: Num) -> u8
+    ensures { λ r. ⌜ r ≡ numQuestion n ⌝ }
+{
+    match n {
+        Num::Bad(f) => match f {
+            Fault::Cut => 1,
+            Fault::Form => 2,
+        },
+        Num::Got(_, _) => 0,
+    }
+}
+
+pub fn field_question(f: Field) -> u8
+    ensures { λ r. ⌜ r ≡ fieldQuestion f ⌝ }
+{
+    match f {
+        Field::No(q) => q,
+        Field::Value(_, _) => 0,
+    }
+}
+
+pub fn reading_question(r: Reading) -> u8
+    ensures { λ q. ⌜ q ≡ readingQuestion r ⌝ }
+{
+    match r {
+        Reading::Refused(q) => q,
+        Reading::At(_) => 0,
+    }
+}
+
+pub fn head_question(h: Head) -> u8
+    ensures { λ r. ⌜ r ≡ headQuestion h ⌝ }
+{
+    match h {
+        Head::Stopped(q) => q,
+        Head::Counted(_, _) => 0,
+    }
+}
+
+// The number at `at` for a field from low to high: question 1, then 2, then 3.
+pub fn read_field(s: &[u8], at: usize, low: u8, high: u8) -> Field
+    ensures { λ r. ⌜ r ≡ fieldAt (now (s .entry)) at low high ⌝ }
+{
+    let n = varint::decode(s, at);
+    let Num::Got(v, next) = n else {
+        return Field::No(num_question(n));
+    };
+    if v < (low as usize) {
+        return Field::No(3);
+    }
+    if (high as usize) < v {
+        return Field::No(3);
+    }
+    Field::Value(v as u8, next)
+}

@@ -1,0 +1,193 @@
+// The first groups of the file: counts, objects, devices. Each reader fills the columns that it is lent and answers the
+// next place, or the question that ends the reading.
+ghost use mathlib.Core.Path.{_≡_};
+ghost use Prim.Native.Nat.{_≤_};
+ghost use Rattle.model.specs.declared.Head.the-variants.{Stopped};
+ghost use Rattle.model.specs.declared.Reading.the-variants.{Refused};
+ghost use Rattle.model.specs.Config.{mostDevices, mostObjects};
+ghost use Rattle.model.specs.ConfigFile.{fieldQuestion, countsAt, ownerLeast, ownerMost, object, device, turns};
+ghost use Rattle.config.specs.Columns.{objectsOf, devicesOf, progress, Within};
+use crate::fields::field_question;
+use crate::fields::read_field;
+use model::Counts;
+use model::DEVICE_SLOTS;
+use model::Field;
+use model::Head;
+use model::MOST_CLASS;
+use model::MOST_DEVICES;
+use model::MOST_DRIVERS;
+use model::MOST_KIND;
+use model::MOST_OBJECTS;
+use model::MOST_VALUES;
+use model::OBJECT_SLOTS;
+use model::Reading;
+
+fn stopped(f: Field) -> Head
+    ensures { λ r. ⌜ r ≡ Stopped (fieldQuestion f) ⌝ }
+{
+    Head::Stopped(field_question(f))
+}
+
+pub fn refused(f: Field) -> Reading
+    ensures { λ r. ⌜ r ≡ Refused (fieldQuestion f) ⌝ }
+{
+    Reading::Refused(field_question(f))
+}
+
+// Edition, drivers, devices, objects, values.
+pub fn read_counts(s: &[u8]) -> Head
+    ensures { λ r. ⌜ r ≡ countsAt (now (s .entry)) ⌝ }
+{
+    let f = read_field(s, 0, 1, 1);
+    let Field::Value(_, a) = f else {
+        return stopped(f);
+    };
+    let g = read_field(s, a, 0, MOST_DRIVERS);
+    let Field::Value(drivers, b) = g else {
+        return stopped(g);
+    };
+    let h = read_field(s, b, 0, MOST_DEVICES);
+    let Field::Value(devices, c) = h else {
+        return stopped(h);
+    };
+    let j = read_field(s, c, 0, MOST_OBJECTS);
+    let Field::Value(objects, d) = j else {
+        return stopped(j);
+    };
+    let k = read_field(s, d, 0, MOST_VALUES);
+    let Field::Value(values, next) = k else {
+        return stopped(k);
+    };
+    Head::Counted(
+        Counts {
+            drivers: drivers,
+            devices: devices,
+            objects: objects,
+            values: values,
+        },
+        next,
+    )
+}
+
+fn owner_least(class: u8) -> u8
+    ensures { λ r. ⌜ r ≡ ownerLeast class ⌝ }
+{
+    if class == 0 { 0 } else { 1 }
+}
+
+fn owner_most(counts: Counts, class: u8) -> u8
+    ensures { λ r. ⌜ r ≡ ownerMost counts class ⌝ }
+{
+    if class == 0 {
+        return 0;
+    }
+    if class == 1 {
+        counts.drivers
+    } else {
+        counts.devices
+    }
+}
+
+// Object o: kind, owner's class, owner's number.
+fn read_object(
+    s: &[u8],
+    counts: Counts,
+    o: u8,
+    at: usize,
+    kind: &mut [u8; OBJECT_SLOTS],
+    class: &mut [u8; OBJECT_SLOTS],
+    owner: &mut [u8; OBJECT_SLOTS],
+) -> Reading
+    requires { ⌜ o ≤ mostObjects ⌝ }
+    ensures { λ r. ⌜ progress r (objectsOf (now (kind .exit)) (now (class .exit)) (now (owner .exit))) ≡ object (now (s .entry)) counts o at (objectsOf (now (kind .entry)) (now (class .entry)) (now (owner .entry))) ⌝ }
+{
+    let f = read_field(s, at, 1, MOST_KIND);
+    let Field::Value(k, a) = f else {
+        return refused(f);
+    };
+    let g = read_field(s, a, 0, MOST_CLASS);
+    let Field::Value(c, b) = g else {
+        return refused(g);
+    };
+    let least = owner_least(c);
+    let most = owner_most(counts, c);
+    let h = read_field(s, b, least, most);
+    let Field::Value(w, next) = h else {
+        return refused(h);
+    };
+    let i = o as usize;
+    kind[i] = k;
+    class[i] = c;
+    owner[i] = w;
+    Reading::At(next)
+}
+
+// Objects 1 to N.
+pub fn read_objects(
+    s: &[u8],
+    counts: Counts,
+    at: usize,
+    kind: &mut [u8; OBJECT_SLOTS],
+    class: &mut [u8; OBJECT_SLOTS],
+    owner: &mut [u8; OBJECT_SLOTS],
+) -> Reading
+    requires { ⌜ Within counts ⌝ }
+    ensures { λ r. ⌜ progress r (objectsOf (now (kind .exit)) (now (class .exit)) (now (owner .exit))) ≡ turns (object (now (s .entry)) counts) (counts .objects) 0 at (objectsOf (now (kind .entry)) (now (class .entry)) (now (owner .entry))) ⌝ }
+{
+    let n = counts.objects;
+    let mut i: u8 = 0;
+    let mut p = at;
+    while i < n {
+        i += 1;
+        let r = read_object(s, counts, i, p, kind, class, owner);
+        let Reading::At(next) = r else {
+            return r;
+        };
+        p = next;
+    }
+    Reading::At(p)
+}
+
+// Device v: the value number of its hardcoded descriptor.
+fn read_device(
+    s: &[u8],
+    counts: Counts,
+    v: u8,
+    at: usize,
+    hardcoded: &mut [u8; DEVICE_SLOTS],
+) -> Reading
+    requires { ⌜ v ≤ mostDevices ⌝ }
+    ensures { λ r. ⌜ progress r (devicesOf (now (hardcoded .exit))) ≡ device (now (s .entry)) counts v at (devicesOf (now (hardcoded .entry))) ⌝ }
+{
+    let f = read_field(s, at, 0, counts.values);
+    let Field::Value(w, next) = f else {
+        return refused(f);
+    };
+    let i = v as usize;
+    hardcoded[i] = w;
+    Reading::At(next)
+}
+
+// Devices 1 to V.
+pub fn read_devices(
+    s: &[u8],
+    counts: Counts,
+    at: usize,
+    hardcoded: &mut [u8; DEVICE_SLOTS],
+) -> Reading
+    requires { ⌜ Within counts ⌝ }
+    ensures { λ r. ⌜ progress r (devicesOf (now (hardcoded .exit))) ≡ turns (device (now (s .entry)) counts) (counts .devices) 0 at (devicesOf (now (hardcoded .entry))) ⌝ }
+{
+    let n = counts.devices;
+    let mut i: u8 = 0;
+    let mut p = at;
+    while i < n {
+        i += 1;
+        let r = read_device(s, counts, i, p, hardcoded);
+        let Reading::At(next) = r else {
+            return r;
+        };
+        p = next;
+    }
+    Reading::At(p)
+}

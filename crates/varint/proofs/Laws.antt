@@ -1,0 +1,107 @@
+-- Laws of `lead` at a place of a list, and of `numberAt` by cases.
+-- Assumes nothing.
+use Prim.Native.Nat.{ℕ, suc, _+_, _-_, _*_, _%_, _<_, _≤_}
+use mathlib.Core.Path.{_≡_, refl, sym, _∙_}
+use native.Mathlib.Numerals.{add-one}
+use mathlib.Core.List.{List}
+use mathlib.Core.Bool.{Bool, true, false, _||_}
+use lib.Dec.{eqb}
+use lib.ListN.{length, getD, drop, drop-of-length-le, length-drop}
+use lib.Seq.{drop-cons, getD-drop}
+use borrow.Author.Tests.{lt-ltb, le-ltb, le-leb, lt-leb, eq-eqb, ne-eqb}
+use native.Mathlib.Omega.{arith}
+use Rattle.model.specs.declared.Fault.the-variants.{Cut, Form}
+use Rattle.model.specs.declared.Num.the-variants.{Got, Bad}
+use Rattle.model.specs.Number.{mostNumber, mostBytes, lead, valueOf, shortest, formed, formAt, headAt, numberAt}
+
+module _ (s : List ℕ) (i : ℕ) where
+  pub lead-last : i < length s → getD s i 0 < 128 → lead (drop i s) ≡ 0
+  unfolding lead
+  lead-last h b = rw (drop-cons s i 0 h) (rw (lt-ltb (getD s i 0) 128 b))
+
+  pub lead-more : i < length s → 128 ≤ getD s i 0 → lead (drop i s) ≡ suc (lead (drop (suc i) s))
+  unfolding lead
+  lead-more h b = rw (drop-cons s i 0 h) (rw (le-ltb (getD s i 0) 128 b))
+
+  pub lead-end : length s ≤ i → lead (drop i s) ≡ 0
+  unfolding lead
+  lead-end h = rw (drop-of-length-le s h)
+
+or-true : (b : Bool) → b || true ≡ true
+or-true true = refl
+or-true false = refl
+
+-- the value at a place of s
+module _ (s : List ℕ) (at : ℕ) (h : at < length s) where
+  pub value-last : valueOf (drop at s) 0 ≡ getD s at 0
+  unfolding valueOf
+  value-last = rw (drop-cons s at 0 h)
+
+  pub value-more : (n : ℕ) → valueOf (drop at s) (suc n) ≡ getD s at 0 % 128 + 128 * valueOf (drop (at + 1) s) n
+  unfolding valueOf
+  value-more n = rw (add-one, drop-cons s at 0 h)
+
+-- the number at a place of s: e is the place of its last byte
+module _ (s : List ℕ) (at e : ℕ) (p : e ≡ at + lead (drop at s)) where
+  pub number-cut : length s ≤ e → numberAt s at ≡ Bad Cut
+  unfolding headAt numberAt
+  number-cut h = rw (le-ltb (lead (drop at s)) (length (drop at s)) (simp length-drop (omega arith)))
+
+  pub number-form : e < length s → numberAt s at ≡ formAt at (drop at s) (e - at)
+  unfolding headAt numberAt
+  number-form h =
+      let q : lead (drop at s) ≡ e - at = omega arith in
+      rw (lt-ltb (lead (drop at s)) (length (drop at s)) (simp length-drop (omega arith)), q)
+
+  pub last-byte : getD (drop at s) (e - at) 0 ≡ getD s e 0
+  last-byte =
+      let q : at + (e - at) ≡ e = omega arith in
+      getD-drop at s (e - at) 0 ∙ rw q
+
+module _ (at : ℕ) (t : List ℕ) (n : ℕ) where
+  pub form-bad : formed t n ≡ false → formAt at t n ≡ Bad Form
+  unfolding formAt
+  form-bad h = rw h
+
+  pub form-got : (e v : ℕ) → at + n ≡ e → v ≡ valueOf t n → formed t n ≡ true → formAt at t n ≡ Got v (e + 1)
+  unfolding formAt
+  form-got e v p q h = rw (h, p, q)
+
+module _ (t : List ℕ) (n : ℕ) where
+  pub shortest-one : n ≤ 0 → shortest t n ≡ true
+  unfolding shortest
+  shortest-one h = rw (eq-eqb n 0 (omega arith))
+
+  pub shortest-more : (b : ℕ) → getD t n 0 ≡ b → (b ≡ 0 → ⊥) → shortest t n ≡ true
+  unfolding shortest
+  shortest-more b p h = rw (p, lt-ltb 0 b (omega arith)) (or-true (eqb n 0))
+
+  pub shortest-not : (b : ℕ) → getD t n 0 ≡ b → 0 < n → b ≡ 0 → shortest t n ≡ false
+  unfolding shortest
+  shortest-not b p h z = rw (p, z, ne-eqb n 0 (omega arith))
+
+  pub formed-long : mostBytes ≤ n → formed t n ≡ false
+  unfolding formed
+  formed-long h = rw (le-ltb n mostBytes h)
+
+  pub formed-padded : n < mostBytes → shortest t n ≡ false → formed t n ≡ false
+  unfolding formed
+  formed-padded h p = rw (lt-ltb n mostBytes h, p)
+
+  pub formed-large : (v : ℕ) → v ≡ valueOf t n → n < mostBytes → shortest t n ≡ true → mostNumber < v → formed t n ≡ false
+  unfolding formed
+  formed-large v e h p q = rw (lt-ltb n mostBytes h, p, ← e, lt-leb v mostNumber q)
+
+  pub formed-right : (v : ℕ) → v ≡ valueOf t n → n < mostBytes → shortest t n ≡ true → v ≤ mostNumber → formed t n ≡ true
+  unfolding formed
+  formed-right v e h p q = rw (lt-ltb n mostBytes h, p, ← e, le-leb v mostNumber q)
+
+-- a number of one byte
+pub number-one : (s : List ℕ) (at b : ℕ) → at < length s → b ≡ getD s at 0 → b < 128 → Got b (at + 1) ≡ numberAt s at
+number-one s at b h e small =
+    let p : at ≡ at + lead (drop at s) = omega (arith, lead-last s at h (rw (← e) small)) in
+    let z : at - at ≡ 0 = omega arith in
+    let v : b ≡ valueOf (drop at s) 0 = e ∙ sym (value-last s at h) in
+    sym (number-form s at at p h
+    ∙ rw z (form-got at (drop at s) 0 at b (omega arith) v
+    (formed-right (drop at s) 0 b v (omega arith) (shortest-one (drop at s) 0 (omega arith)) (omega arith))))

@@ -1,0 +1,83 @@
+// The number reader (document 01, 'Line file'; questions 1 and 2): canonical LEB128 in at most three bytes.
+ghost use mathlib.Core.Path.{_≡_};
+ghost use Prim.Native.Nat.{_+_, _≤_, _<_};
+ghost use lib.ListN.{length, drop};
+ghost use Rattle.model.specs.Number.{mostBytes, lead, valueOf, numberAt};
+pub use model::Fault;
+use model::MOST_BYTES;
+use model::MOST_NUMBER;
+pub use model::Num;
+
+fn wide(b: u8) -> usize
+    ensures { λ r. ⌜ (r ≡ b) × (r < 256) ⌝ }
+{
+    b as usize
+}
+
+// The place of the last byte of the number at `at`: the first byte below 128. At or past the end where there is none.
+fn last(s: &[u8], at: usize) -> usize
+    ensures { λ r. ⌜ r ≡ at + lead (drop at (now (s .entry))) ⌝ }
+{
+    let mut i = at;
+    while i < s.len() {
+        if s[i] < 128 {
+            return i;
+        }
+        i += 1;
+    }
+    i
+}
+
+// The value of the number at `at` that has n bytes before its last.
+fn value(s: &[u8], at: usize, n: usize) -> usize
+    requires { ⌜ (n < mostBytes) × (at + n < length (now s)) ⌝ }
+    ensures { λ r. ⌜ r ≡ valueOf (drop at (now (s .entry))) n ⌝ }
+{
+    let first = wide(s[at]);
+    if n == 0 {
+        return first;
+    }
+    let second = wide(s[at + 1]);
+    if n == 1 {
+        return first % 128 + 128 * second;
+    }
+    let third = wide(s[at + 2]);
+    first % 128 + 128 * (second % 128 + 128 * third)
+}
+
+// The number at `at`, of any length.
+fn long_number(s: &[u8], at: usize) -> Num
+    ensures { λ r. ⌜ r ≡ numberAt (now (s .entry)) at ⌝ }
+{
+    let end = last(s, at);
+    if s.len() <= end {
+        return Num::Bad(Fault::Cut);
+    }
+    let n = end - at;
+    if MOST_BYTES <= n {
+        return Num::Bad(Fault::Form);
+    }
+    if 0 < n {
+        if s[end] == 0 {
+            return Num::Bad(Fault::Form);
+        }
+    }
+    let v = value(s, at, n);
+    if MOST_NUMBER < v {
+        return Num::Bad(Fault::Form);
+    }
+    Num::Got(v, end + 1)
+}
+
+// The number at `at` with the place after it, or what is wrong there. Most numbers of a file have one byte.
+pub fn decode(s: &[u8], at: usize) -> Num
+    ensures { λ r. ⌜ r ≡ numberAt (now (s .entry)) at ⌝ }
+{
+    if at < s.len() {
+        let first = wide(s[at]);
+        if first < 128 {
+            return Num::Got(first, at + 1);
+        }
+    }
+    long_number(s, at)
+}
