@@ -1,5 +1,5 @@
 -- Document 01, 'Line file' and questions 1 to 6: the configuration that a file tells, or the first refusal.
-use Prim.Native.Nat.{ℕ, zero, suc, _+_, _*_}
+use Prim.Native.Nat.{ℕ, zero, suc, _+_}
 use mathlib.Core.List.{List}
 use mathlib.Core.Bool.{Bool, true, false, not, cond, _&&_, _||_}
 use lib.ListN.{length, getD, set}
@@ -28,7 +28,6 @@ use Rattle.model.specs.Config.{
   Entry,
   entries,
 }
-use Rattle.model.specs.declared.Fault.{Fault}
 use Rattle.model.specs.declared.Fault.the-variants.{Cut, Form}
 use Rattle.model.specs.declared.Num.{Num}
 use Rattle.model.specs.declared.Num.the-variants.{Got, Bad}
@@ -51,7 +50,7 @@ numQuestion (Got v next) = 0
 numQuestion (Bad Cut) = 1
 numQuestion (Bad Form) = 2
 
--- for each number 1, then 2, then 3: is it in its field's range?
+-- questions 1 to 3 of one number, in this order; 3: is it in its field's range?
 unfoldable pub ranged : ℕ → ℕ → Num → Field
 ranged low high (Got v next) = cond (leb low v && leb v high) (Value v next) (No 3)
 ranged low high (Bad f) = No (numQuestion (Bad f))
@@ -72,7 +71,7 @@ abbrev pub headQuestion : Head → ℕ
 headQuestion (Counted n next) = 0
 headQuestion (Stopped q) = q
 
--- the number and the next place go on to what follows, or the first number that fails decides
+-- 'The questions': a number and the next place go on to what follows, or the first number that fails decides
 unfoldable pub onField : {R : Type 0} → (ℕ → R) → Field → (ℕ → ℕ → R) → R
 onField stop (Value v next) k = k v next
 onField stop (No q) k = stop q
@@ -99,7 +98,7 @@ turns f (suc n) i at t =
     let p = f (i + 1) at t in
     onReading (stop (p .table)) (p .reading) (λ next. turns f n (i + 1) next (p .table))
 
--- edition, 1; drivers D, cards V, objects N, values K
+-- document 01, 'Line file': edition, 1; drivers D, devices V, objects N, values K
 unfoldable pub countsAt : List ℕ → Head
 countsAt s =
     onField Stopped (fieldAt s 0 1 1) λ edition a.
@@ -109,7 +108,7 @@ countsAt s =
     onField Stopped (fieldAt s e 0 mostValues) λ k next.
     Counted (record { drivers = d; devices = v; objects = n; values = k }) next
 
--- the range of an owner's number by the owner's class: 0, 1 to D, or 1 to V
+-- document 01, 'Line file': an owner's number by its class: 0, 1 to D, or 1 to V
 unfoldable pub ownerLeast : ℕ → ℕ
 ownerLeast class = cond (eqb class 0) 0 1
 
@@ -120,7 +119,7 @@ unfoldable pub setObject : Objects → ℕ → ℕ → ℕ → ℕ → Objects
 setObject t o kind class owner =
     record { kind = set (t .kind) o kind; class = set (t .class) o class; owner = set (t .owner) o owner }
 
--- object o: kind; owner class; owner number
+-- document 01, 'Line file': object o has kind; owner class; owner number
 unfoldable pub object : List ℕ → Counts → ℕ → ℕ → Objects → Progress Objects
 object s counts o at t =
     onField (stop t) (fieldAt s at 1 mostKind) λ kind a.
@@ -131,13 +130,14 @@ object s counts o at t =
 unfoldable pub setDevice : Devices → ℕ → ℕ → Devices
 setDevice t v w = record { hardcoded = set (t .hardcoded) v w }
 
--- device v: the value number 0 to K of its hardcoded descriptor
+-- document 01, 'Line file': device v has the value number 0 to K of its hardcoded descriptor
 unfoldable pub device : List ℕ → Counts → ℕ → ℕ → Devices → Progress Devices
 device s counts v at t =
     onField (stop t) (fieldAt s at 0 (counts .values)) λ w next.
     read (setDevice t v w) next
 
--- a stored value must be 0 unless the object is of kind 1 and the mode is 2 or 3; `kinds` is the column of kinds
+-- document 01, 'Line file': a stored value must be 0 unless the object is of kind 1 and the mode is 2 or 3; `kinds` is
+-- the column of kinds
 unfoldable pub storedMost : Counts → List ℕ → ℕ → ℕ → ℕ
 storedMost counts kinds o mode = cond (eqb (getD kinds o 0) 1 && leb 2 mode) (counts .values) 0
 
@@ -145,7 +145,7 @@ unfoldable pub setEntry : Values → ℕ → ℕ → ℕ → ℕ → Values
 setEntry t place o mode w =
     record { count = t .count; entries = set (set (set (t .entries) place o) (place + 1) mode) (place + 2) w }
 
--- entry j, from 1, of value v: object, mode, stored value
+-- document 01, 'Line file': entry j, from 1, of value v has object 1 to N, mode 1 to 3, stored value
 unfoldable pub entry : List ℕ → Counts → List ℕ → ℕ → ℕ → ℕ → Values → Progress Values
 entry s counts kinds v j at t =
     onField (stop t) (fieldAt s at 1 (counts .objects)) λ o a.
@@ -156,13 +156,13 @@ entry s counts kinds v j at t =
 unfoldable pub setCount : Values → ℕ → ℕ → Values
 setCount t v n = record { count = set (t .count) v n; entries = t .entries }
 
--- value v: entry count 0 to 6; then each entry
+-- document 01, 'Line file': value v has entry count 0 to 6; then each entry
 unfoldable pub value : List ℕ → Counts → List ℕ → ℕ → ℕ → Values → Progress Values
 value s counts kinds v at t =
     onField (stop t) (fieldAt s at 0 mostEntries) λ n next.
     turns (entry s counts kinds v) n 0 next (setCount t v n)
 
--- objects 1 to N, devices 1 to V, values 1 to K
+-- document 01, 'Line file': objects 1 to N, devices 1 to V, values 1 to K, in order
 unfoldable pub objectsAt : List ℕ → Counts → ℕ → Progress Objects
 objectsAt s counts at = turns (object s counts) (counts .objects) 0 at blankObjects
 

@@ -3,7 +3,7 @@
 ghost use mathlib.Core.Path.{_≡_};
 ghost use Rattle.model.specs.Config.{entryPlace};
 
-// The limits of a configuration (document 01, 'Line file'), and how many bytes a number has at most.
+// The limits of a configuration (document 01, 'Line file').
 pub const MOST_DRIVERS: u8 = 16;
 
 pub const MOST_DEVICES: u8 = 16;
@@ -21,6 +21,7 @@ pub const MOST_CLASS: u8 = 2;
 
 pub const MOST_MODE: u8 = 3;
 
+// The largest number, and how many bytes one has at most.
 pub const MOST_NUMBER: usize = 65535;
 
 pub const MOST_BYTES: usize = 3;
@@ -36,6 +37,11 @@ pub const VALUE_SLOTS: usize = MOST_VALUES as usize + 1;
 pub const ENTRY_BYTES: usize = 3;
 
 pub const ENTRY_SLOTS: usize = ENTRY_BYTES * (MOST_ENTRIES as usize * VALUE_SLOTS + 1);
+
+// How many items an operation has at most, and how many bytes an object holds.
+pub const MOST_ITEMS: usize = 8;
+
+pub const CONTENT_BYTES: usize = 16;
 
 // Why the bytes at a place are no number.
 pub enum Fault {
@@ -105,6 +111,43 @@ pub struct Config {
 pub struct Loaded {
     pub answer: u8,
     pub config: Config,
+}
+
+// An operation taken apart (document 01: operation record). Item i, from 0, has its object, its second number (a value
+// or a destination), its form, and its sixteen bytes of raw from place 16 * i.
+pub struct Operation {
+    pub code: usize,
+    pub subject: usize,
+    pub partition: usize,
+    pub count: usize,
+    pub objects: [u32; MOST_ITEMS],
+    pub seconds: [u32; MOST_ITEMS],
+    pub forms: [u32; MOST_ITEMS],
+    pub raw: [u8; CONTENT_BYTES * MOST_ITEMS],
+}
+
+// What a code does.
+pub enum Family {
+    Write,
+    Copy,
+    Create,
+    Destroy,
+    Activate,
+    Deactivate,
+}
+
+// To whom a code does it, or by whom (document 01: driver, card, external objects).
+pub enum Actor {
+    Driver,
+    Device,
+    External,
+}
+
+// An operation read up to a place: 0 and the operation so far, or 10.
+pub struct Parse {
+    pub answer: u8,
+    pub at: usize,
+    pub operation: Operation,
 }
 
 // Where entry j, from 1, of value v begins in the table of entries.
