@@ -2,3 +2,12 @@ pub mod Base
 pub mod Number
 pub mod Config
 pub mod ConfigFile
+pub mod State
+pub mod Closure
+pub mod Operation
+pub mod Effect
+pub mod Questions
+pub mod Gate
+pub mod Trace
+pub mod Separation
+pub mod Examples
