@@ -1,7 +1,7 @@
 -- Laws of the file's definitions by cases, in the form in which the readers' proofs cite them.
 -- Assumes nothing.
 use Prim.Native.Nat.{ℕ, suc, _+_, _-_, _<_, _≤_}
-use mathlib.Core.Path.{_≡_, refl, sym, ap, _∙_, subst}
+use mathlib.Core.Path.{_≡_, refl, sym, _∙_, subst}
 use mathlib.Core.List.{List}
 use mathlib.Core.Bool.{Bool, true, false, cond, false≢true, _&&_}
 use lib.ListN.{length}
@@ -48,6 +48,7 @@ use Rattle.model.specs.declared.Counts.{Counts}
 use Rattle.model.specs.declared.Config.{Config}
 use Rattle.model.specs.declared.Loaded.{Loaded}
 use Rattle.config.specs.Columns.{progress, Within}
+use Rattle.config.specs.Sound.{firstNo}
 
 and-false : (b : Bool) → b && false ≡ false
 and-false true = refl
@@ -184,16 +185,22 @@ module _ (s : List ℕ) (at : ℕ) (config : Config) where
   unfolding judged ask
   left-over h p = rw (p, ne-eqb at (length s) h)
 
-  module _ {a : Bool} (h : at ≡ length s) (e : a ≡ paired config) where
-    pub not-paired : {r : Loaded} → a ≡ false → r ≡ refused 5 → r ≡ judged s at config
-    unfolding judged ask
-    not-paired z p = rw (p, eq-eqb at (length s) h, ← e, z)
+  module _ {a b : Bool} {q : ℕ} (h : at ≡ length s) (e : a ≡ paired config) (g : b ≡ restrained config)
+      (f : q ≡ firstNo a 5 b 6) where
+    pub not-sound : {r : Loaded} → (q ≡ 0 → ⊥) → r ≡ refused q → r ≡ judged s at config
+    unfolding judged ask firstNo
+    not-sound n p = rw (p, eq-eqb at (length s) h, ← e, ← g) (go a b f)
+      where
+        go : (a b : Bool) → q ≡ firstNo a 5 b 6 → refused q ≡ ask 5 a (ask 6 b (accepted config))
+        go true true z = absurd (n z)
+        go true false z = rw z
+        go false b z = rw z
 
-    module _ {b : Bool} (y : a ≡ true) (g : b ≡ restrained config) where
-      pub not-restrained : {r : Loaded} → b ≡ false → r ≡ refused 6 → r ≡ judged s at config
-      unfolding judged ask
-      not-restrained z p = rw (p, eq-eqb at (length s) h, ← e, y, ← g, z)
-
-      pub accepts : b ≡ true → accepted config ≡ judged s at config
-      unfolding judged ask
-      accepts z = rw (eq-eqb at (length s) h, ← e, y, ← g, z)
+    pub accepts : q ≡ 0 → accepted config ≡ judged s at config
+    unfolding judged ask firstNo
+    accepts n = rw (eq-eqb at (length s) h, ← e, ← g) (go a b f)
+      where
+        go : (a b : Bool) → q ≡ firstNo a 5 b 6 → accepted config ≡ ask 5 a (ask 6 b (accepted config))
+        go true true z = refl
+        go true false z = absurd (omega arith)
+        go false b z = absurd (omega arith)

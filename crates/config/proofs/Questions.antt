@@ -1,15 +1,15 @@
 -- Laws of the loops that put questions 5 and 6, and that the columns' questions are the model's.
 -- Assumes nothing.
 use Prim.Native.Nat.{ℕ, zero, suc, _+_, _-_, _≤_, _<_}
-use mathlib.Core.Path.{_≡_, refl, sym, ap, _∙_}
-use mathlib.Core.List.{List, []}
-use mathlib.Core.Bool.{Bool, true, false, not, cond, _&&_}
+use mathlib.Core.Path.{_≡_, refl, sym, ap}
+use mathlib.Core.List.{List}
+use mathlib.Core.Bool.{Bool, true, false, cond, _&&_}
 use native.Mathlib.Omega.{arith}
 use native.Mathlib.Decide.{ℕ-discrete}
 use native.Mathlib.Numerals.{add-one}
 use lib.ListN.{getD}
-use lib.Dec.{leb, eqb}
-use borrow.Author.Tests.{le-leb, not-true, not-false, ne-eqb, eq-eqb}
+use lib.Dec.{eqb}
+use borrow.Author.Tests.{le-leb}
 use Rattle.model.specs.Base.{all, every}
 use Rattle.model.specs.Config.{
   entryBytes,
@@ -18,8 +18,6 @@ use Rattle.model.specs.Config.{
   classOf,
   ownerOf,
   hardcodedOf,
-  from1to,
-  owns,
   hardcodedTo,
   Entry,
   entryAt,
@@ -155,12 +153,14 @@ module _ (config : Config) where
       go true b d = refl
       go false b d = refl
 
-  one-same : (c : ℕ) → hasOne (config .objects .kind) (config .objects .class) (config .objects .owner) (config .counts .objects) c
+  one-same : (c : ℕ) → hasOne (config .objects .kind) (config .objects .class) (config .objects .owner)
+      (config .counts .objects) c
       ≡ eqb (howMany (config .counts .objects) (hardcodedTo config c)) 1
   unfolding hasOne tally
   one-same c = ap (λ (n : ℕ). eqb n 1) (many-same (config .counts .objects) _ _ (marks-same c))
 
-  pub paired-same : upTo (config .counts .devices) (hasOne (config .objects .kind) (config .objects .class) (config .objects .owner) (config .counts .objects))
+  pub paired-same : upTo (config .counts .devices)
+      (hasOne (config .objects .kind) (config .objects .class) (config .objects .owner) (config .counts .objects))
       && upTo (config .counts .objects) (deviceOwned (config .objects .kind) (config .objects .class)) ≡ paired config
   unfolding paired upTo deviceOwned
   paired-same = rw (every-same (config .counts .devices) _ _ (λ c low high. one-same c))
@@ -176,7 +176,8 @@ module _ (config : Config) where
   paired-no a e z = rw (← paired-same config, ← e, z)
 
   pub paired-rest : (a r : Bool) → a ≡ Ones → a ≡ true
-      → r ≡ upTo (config .counts .objects) (deviceOwned (config .objects .kind) (config .objects .class)) → r ≡ paired config
+      → r ≡ upTo (config .counts .objects) (deviceOwned (config .objects .kind) (config .objects .class))
+      → r ≡ paired config
   paired-rest a r e z p = rw (← paired-same config, ← e, z, p)
 
 -- the entries of a value: value 0 has none
@@ -195,7 +196,8 @@ module _ (p : Entry → Bool) (count table : List ℕ) where
 module _ (config : Config) where
   passes-same : (c w : ℕ)
       → valuePasses
-      (entryPasses (config .objects .kind) (config .objects .class) (config .objects .owner) (config .counts .objects) c)
+      (entryPasses (config .objects .kind) (config .objects .class) (config .objects .owner)
+      (config .counts .objects) c)
       (config .values .count)
       (config .values .entries)
       w
@@ -204,7 +206,8 @@ module _ (config : Config) where
   passes-same c zero = refl
   passes-same c (suc v) = refl
 
-  pub restrained-same : upTo (config .counts .devices) (deviceRestrained (config .counts .objects) (config .objects) (config .devices) (config .values))
+  pub restrained-same : upTo (config .counts .devices)
+      (deviceRestrained (config .counts .objects) (config .objects) (config .devices) (config .values))
       ≡ restrained config
   unfolding restrained upTo deviceRestrained
   restrained-same = every-same (config .counts .devices) _ _ (λ c low high. passes-same c (hardcodedOf config c))

@@ -1,7 +1,7 @@
 -- Questions 5 and 6 by the columns that they look at. proofs/Questions has that these are the model's.
 use Prim.Native.Nat.{ℕ, zero, suc}
 use mathlib.Core.List.{List}
-use mathlib.Core.Bool.{Bool, true, not, cond, _&&_, _||_}
+use mathlib.Core.Bool.{Bool, true, false, not, cond, _&&_, _||_}
 use lib.ListN.{getD}
 use lib.Dec.{eqb}
 use Rattle.model.specs.Base.{all, every}
@@ -65,3 +65,9 @@ deviceRestrained n objects devices values c =
     (values .count)
     (values .entries)
     (getD (devices .hardcoded) c 0)
+
+-- the number of the first of two questions that is answered with no, or 0
+unfoldable pub firstNo : Bool → ℕ → Bool → ℕ → ℕ
+firstNo false p b q = p
+firstNo true p true q = 0
+firstNo true p false q = q

@@ -99,7 +99,10 @@ fn read_object(
     owner: &mut [u8; OBJECT_SLOTS],
 ) -> Reading
     requires { ⌜ o ≤ mostObjects ⌝ }
-    ensures { λ r. ⌜ progress r (objectsOf (now (kind .exit)) (now (class .exit)) (now (owner .exit))) ≡ object (now (s .entry)) counts o at (objectsOf (now (kind .entry)) (now (class .entry)) (now (owner .entry))) ⌝ }
+    ensures { λ r.
+        ⌜ progress r (objectsOf (now (kind .exit)) (now (class .exit)) (now (owner .exit)))
+        ≡ object (now (s .entry)) counts o at
+        (objectsOf (now (kind .entry)) (now (class .entry)) (now (owner .entry))) ⌝ }
 {
     let f = read_field(s, at, 1, MOST_KIND);
     let Field::Value(k, a) = f else {
@@ -132,7 +135,10 @@ pub fn read_objects(
     owner: &mut [u8; OBJECT_SLOTS],
 ) -> Reading
     requires { ⌜ Within counts ⌝ }
-    ensures { λ r. ⌜ progress r (objectsOf (now (kind .exit)) (now (class .exit)) (now (owner .exit))) ≡ turns (object (now (s .entry)) counts) (counts .objects) 0 at (objectsOf (now (kind .entry)) (now (class .entry)) (now (owner .entry))) ⌝ }
+    ensures { λ r.
+        ⌜ progress r (objectsOf (now (kind .exit)) (now (class .exit)) (now (owner .exit)))
+        ≡ turns (object (now (s .entry)) counts) (counts .objects) 0 at
+        (objectsOf (now (kind .entry)) (now (class .entry)) (now (owner .entry))) ⌝ }
 {
     let n = counts.objects;
     let mut i: u8 = 0;
@@ -157,7 +163,9 @@ fn read_device(
     hardcoded: &mut [u8; DEVICE_SLOTS],
 ) -> Reading
     requires { ⌜ v ≤ mostDevices ⌝ }
-    ensures { λ r. ⌜ progress r (devicesOf (now (hardcoded .exit))) ≡ device (now (s .entry)) counts v at (devicesOf (now (hardcoded .entry))) ⌝ }
+    ensures { λ r.
+        ⌜ progress r (devicesOf (now (hardcoded .exit)))
+        ≡ device (now (s .entry)) counts v at (devicesOf (now (hardcoded .entry))) ⌝ }
 {
     let f = read_field(s, at, 0, counts.values);
     let Field::Value(w, next) = f else {
@@ -176,7 +184,9 @@ pub fn read_devices(
     hardcoded: &mut [u8; DEVICE_SLOTS],
 ) -> Reading
     requires { ⌜ Within counts ⌝ }
-    ensures { λ r. ⌜ progress r (devicesOf (now (hardcoded .exit))) ≡ turns (device (now (s .entry)) counts) (counts .devices) 0 at (devicesOf (now (hardcoded .entry))) ⌝ }
+    ensures { λ r.
+        ⌜ progress r (devicesOf (now (hardcoded .exit)))
+        ≡ turns (device (now (s .entry)) counts) (counts .devices) 0 at (devicesOf (now (hardcoded .entry))) ⌝ }
 {
     let n = counts.devices;
     let mut i: u8 = 0;

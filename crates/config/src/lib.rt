@@ -9,6 +9,7 @@ ghost use mathlib.Core.Path.{_≡_};
 ghost use Rattle.model.specs.Config.{blank};
 ghost use Rattle.model.specs.ConfigFile.{refused, judged, groupsFrom, load};
 ghost use Rattle.config.specs.Columns.{Within};
+ghost use Rattle.config.specs.Sound.{firstNo};
 use model::Config;
 use model::Counts;
 use model::DEVICE_SLOTS;
@@ -62,6 +63,16 @@ fn refuse(q: u8) -> Loaded
     }
 }
 
+// The number of the first of two questions that is answered with no, or 0.
+fn first_no(a: bool, p: u8, b: bool, q: u8) -> u8
+    ensures { λ r. ⌜ r ≡ firstNo a p b q ⌝ }
+{
+    if !a {
+        return p;
+    }
+    if b { 0 } else { q }
+}
+
 // Questions 4, 5 and 6 of a file that was read up to `at`.
 fn judge(s: &[u8], at: usize, config: Config) -> Loaded
     requires { ⌜ Within (config .counts) ⌝ }
@@ -70,11 +81,11 @@ fn judge(s: &[u8], at: usize, config: Config) -> Loaded
     if at != s.len() {
         return refuse(4);
     }
-    if !sound::is_paired(config) {
-        return refuse(5);
-    }
-    if !sound::is_restrained(config) {
-        return refuse(6);
+    let paired = sound::is_paired(config);
+    let restrained = sound::is_restrained(config);
+    let q = first_no(paired, 5, restrained, 6);
+    if q != 0 {
+        return refuse(q);
     }
     Loaded {
         answer: 0,

@@ -7,7 +7,8 @@ ghost use lib.ListN.{getD};
 ghost use Rattle.model.specs.Config.{mostObjects, entryBytes, entryAt};
 ghost use Rattle.model.specs.ConfigFile.{paired, restrained};
 ghost use Rattle.config.specs.Columns.{Within};
-ghost use Rattle.config.specs.Sound.{farPlace, upTo, tally, marks, markOf, hasOne, deviceOwned, mayName, entryPasses, allFrom, valuePasses};
+ghost use Rattle.config.specs.Sound.{farPlace, upTo, tally, marks, markOf, hasOne};
+ghost use Rattle.config.specs.Sound.{deviceOwned, mayName, entryPasses, allFrom, valuePasses};
 use model::Config;
 use model::Counts;
 use model::ENTRY_BYTES;
@@ -58,7 +59,9 @@ fn each_has_one<'a>(
     owner: &'a [u8; OBJECT_SLOTS],
 ) -> bool
     requires { ⌜ Within counts ⌝ }
-    ensures { λ r. ⌜ r ≡ upTo (counts .devices) (hasOne (now (kind .entry)) (now (class .entry)) (now (owner .entry)) (counts .objects)) ⌝ }
+    ensures { λ r.
+        ⌜ r ≡ upTo (counts .devices)
+        (hasOne (now (kind .entry)) (now (class .entry)) (now (owner .entry)) (counts .objects)) ⌝ }
 {
     let n = counts.devices;
     let mut i: u8 = 0;
@@ -138,7 +141,9 @@ fn entry_passes<'a>(
     at: usize,
 ) -> bool
     requires { ⌜ at ≤ farPlace ⌝ }
-    ensures { λ r. ⌜ r ≡ entryPasses (now (kind .entry)) (now (class .entry)) (now (owner .entry)) n v (entryAt (now (entries .entry)) at) ⌝ }
+    ensures { λ r.
+        ⌜ r ≡ entryPasses (now (kind .entry)) (now (class .entry)) (now (owner .entry)) n v
+        (entryAt (now (entries .entry)) at) ⌝ }
 {
     let o = look(entries, at);
     let mode = look(entries, at + 1);
@@ -157,7 +162,9 @@ fn entries_pass<'a>(
     k: u8,
 ) -> bool
     requires { ⌜ at + entryBytes * k ≤ farPlace ⌝ }
-    ensures { λ r. ⌜ r ≡ allFrom (entryPasses (now (kind .entry)) (now (class .entry)) (now (owner .entry)) n v) (now (entries .entry)) at k ⌝ }
+    ensures { λ r.
+        ⌜ r ≡ allFrom (entryPasses (now (kind .entry)) (now (class .entry)) (now (owner .entry)) n v)
+        (now (entries .entry)) at k ⌝ }
 {
     let mut i: u8 = 0;
     let mut p = at;
@@ -182,7 +189,9 @@ fn value_passes<'a>(
     v: u8,
     w: u8,
 ) -> bool
-    ensures { λ r. ⌜ r ≡ valuePasses (entryPasses (now (kind .entry)) (now (class .entry)) (now (owner .entry)) n v) (now (count .entry)) (now (entries .entry)) w ⌝ }
+    ensures { λ r.
+        ⌜ r ≡ valuePasses (entryPasses (now (kind .entry)) (now (class .entry)) (now (owner .entry)) n v)
+        (now (count .entry)) (now (entries .entry)) w ⌝ }
 {
     if w == 0 {
         return true;

@@ -41,7 +41,9 @@ fn read_entry(
 ) -> Reading
     requires { ⌜ (v ≤ mostValues) × (j ≤ mostEntries) ⌝ }
     requires { ⌜ Within counts ⌝ }
-    ensures { λ r. ⌜ ((count : List ℕ) → progress r (valuesOf count (now (entries .exit))) ≡ entry (now (s .entry)) counts (now (kinds .entry)) v j at (valuesOf count (now (entries .entry)))) ⌝ }
+    ensures { λ r.
+        ⌜ ((count : List ℕ) → progress r (valuesOf count (now (entries .exit)))
+        ≡ entry (now (s .entry)) counts (now (kinds .entry)) v j at (valuesOf count (now (entries .entry)))) ⌝ }
 {
     let f = read_field(s, at, 1, counts.objects);
     let Field::Value(o, a) = f else {
@@ -75,7 +77,10 @@ fn read_entries(
 ) -> Reading
     requires { ⌜ (v ≤ mostValues) × (n ≤ mostEntries) ⌝ }
     requires { ⌜ Within counts ⌝ }
-    ensures { λ r. ⌜ ((count : List ℕ) → progress r (valuesOf count (now (entries .exit))) ≡ turns (entry (now (s .entry)) counts (now (kinds .entry)) v) n 0 at (valuesOf count (now (entries .entry)))) ⌝ }
+    ensures { λ r.
+        ⌜ ((count : List ℕ) → progress r (valuesOf count (now (entries .exit)))
+        ≡ turns (entry (now (s .entry)) counts (now (kinds .entry)) v) n 0 at
+        (valuesOf count (now (entries .entry)))) ⌝ }
 {
     let mut i: u8 = 0;
     let mut p = at;
@@ -102,7 +107,10 @@ fn read_value(
 ) -> Reading
     requires { ⌜ v ≤ mostValues ⌝ }
     requires { ⌜ Within counts ⌝ }
-    ensures { λ r. ⌜ progress r (valuesOf (now (count .exit)) (now (entries .exit))) ≡ value (now (s .entry)) counts (now (kinds .entry)) v at (valuesOf (now (count .entry)) (now (entries .entry))) ⌝ }
+    ensures { λ r.
+        ⌜ progress r (valuesOf (now (count .exit)) (now (entries .exit)))
+        ≡ value (now (s .entry)) counts (now (kinds .entry)) v at
+        (valuesOf (now (count .entry)) (now (entries .entry))) ⌝ }
 {
     let f = read_field(s, at, 0, MOST_ENTRIES);
     let Field::Value(n, next) = f else {
@@ -123,7 +131,10 @@ pub fn read_values(
     entries: &mut [u8; ENTRY_SLOTS],
 ) -> Reading
     requires { ⌜ Within counts ⌝ }
-    ensures { λ r. ⌜ progress r (valuesOf (now (count .exit)) (now (entries .exit))) ≡ turns (value (now (s .entry)) counts (now (kinds .entry))) (counts .values) 0 at (valuesOf (now (count .entry)) (now (entries .entry))) ⌝ }
+    ensures { λ r.
+        ⌜ progress r (valuesOf (now (count .exit)) (now (entries .exit)))
+        ≡ turns (value (now (s .entry)) counts (now (kinds .entry))) (counts .values) 0 at
+        (valuesOf (now (count .entry)) (now (entries .entry))) ⌝ }
 {
     let n = counts.values;
     let mut i: u8 = 0;

@@ -88,11 +88,13 @@ module _ (t : List ℕ) (n : ℕ) where
   unfolding formed
   formed-padded h p = rw (lt-ltb n mostBytes h, p)
 
-  pub formed-large : (v : ℕ) → v ≡ valueOf t n → n < mostBytes → shortest t n ≡ true → mostNumber < v → formed t n ≡ false
+  pub formed-large : (v : ℕ) → v ≡ valueOf t n → n < mostBytes → shortest t n ≡ true → mostNumber < v
+      → formed t n ≡ false
   unfolding formed
   formed-large v e h p q = rw (lt-ltb n mostBytes h, p, ← e, lt-leb v mostNumber q)
 
-  pub formed-right : (v : ℕ) → v ≡ valueOf t n → n < mostBytes → shortest t n ≡ true → v ≤ mostNumber → formed t n ≡ true
+  pub formed-right : (v : ℕ) → v ≡ valueOf t n → n < mostBytes → shortest t n ≡ true → v ≤ mostNumber
+      → formed t n ≡ true
   unfolding formed
   formed-right v e h p q = rw (lt-ltb n mostBytes h, p, ← e, le-leb v mostNumber q)
 

@@ -1,11 +1,9 @@
+-- `config::blank_config` meets its contract: the record computes. Assumes nothing.
 use mathlib.Core.Path.{refl}
 use Rattle.model.specs.Config.{blank}
 use Rattle.config.proofs.blank_config.Statement.{statement}
 use Rattle.config.proofs.blank_config.Tie as tie
-use Rattle.config.proofs.blank_config.Reads as reads
-use Rattle.config.proofs.blank_config.Lts as lts
 
--- src/lib.rt:26:1
 returns : tie.Need-returns
 unfolding blank
 returns c = refl

@@ -1,16 +1,12 @@
-use Rattle.model.specs.ConfigFile.{refused}
+-- `config::refuse` meets its contract: the record computes. Assumes nothing.
 use borrow.Author.Needs.{needs}
+use Rattle.model.specs.ConfigFile.{refused}
 use Rattle.config.proofs.refuse.Statement.{statement}
 use Rattle.config.proofs.refuse.Tie as tie
-use Rattle.config.proofs.refuse.Reads as reads
-use Rattle.config.proofs.refuse.Lts as lts
-use Rattle.config.proofs.blank_config.Reads as blank-config-reads
 
--- src/lib.rt:58:9
 blank-config-requires : tie.Need-blank-config-requires
 blank-config-requires c κs = search needs
 
--- src/lib.rt:55:1
 returns : tie.Need-returns
 unfolding refused
 returns c = rw (c .blank-config .ensures)

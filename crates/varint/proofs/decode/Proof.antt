@@ -3,32 +3,22 @@ use borrow.Author.Needs.{needs}
 use Rattle.varint.proofs.Laws.{number-one}
 use Rattle.varint.proofs.decode.Statement.{statement}
 use Rattle.varint.proofs.decode.Tie as tie
-use Rattle.varint.proofs.decode.Reads as reads
-use Rattle.varint.proofs.decode.Lts as lts
-use Rattle.varint.proofs.long_number.Reads as long-number-reads
-use Rattle.varint.proofs.wide.Reads as wide-reads
 
--- src/lib.rt:77:26
 shared-slice-read-wide : tie.Need-shared-slice-read-wide
 shared-slice-read-wide c = search needs
 
--- src/lib.rt:77:13
 wide-requires : tie.Need-wide-requires
 wide-requires c κs = search needs
 
--- src/lib.rt:79:36
 add-t9 : tie.Need-add-t9
 add-t9 c = search needs
 
--- src/lib.rt:79:13
 returns : tie.Need-returns
 returns c = search number-one
 
--- src/lib.rt:82:5
 long-number-requires : tie.Need-long-number-requires
 long-number-requires c κs = search needs
 
--- src/lib.rt:73:1
 returns-2 : tie.Need-returns-2
 returns-2 c = search needs
 

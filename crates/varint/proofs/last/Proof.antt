@@ -1,7 +1,7 @@
 -- `varint::last` meets its contract. The invariant: the last byte's place counted from `i` is that counted from `at`.
 -- Assumes nothing.
-use Prim.Native.Nat.{_+_, _-_, suc}
-use mathlib.Core.Path.{_≡_, ap}
+use Prim.Native.Nat.{_+_, _-_}
+use mathlib.Core.Path.{_≡_}
 use native.Mathlib.Omega.{arith}
 use native.Mathlib.Numerals.{add-one}
 use borrow.Author.Needs.{needs}
@@ -26,7 +26,11 @@ shared-slice-read-if1 c = search needs
 returns : tie.Need-returns Inv-loop μ-loop
 returns c =
     let i = c .before .before .before .loop .i in
-    omega (arith, lead-last (c .before .before .before .before .args .s .now) i (omega arith) (c .if1 .taken), c .before .before .before .loop .inv)
+    omega (
+      arith,
+      lead-last (c .before .before .before .before .args .s .now) i (omega arith) (c .if1 .taken),
+      c .before .before .before .loop .inv,
+    )
 
 add-i : tie.Need-add-i Inv-loop μ-loop
 add-i c = search needs
@@ -41,7 +45,8 @@ loop-again c =
     rw add-one (omega (arith, lead-more s i (omega arith) (c .if1 .left), c .before .before .before .loop .inv))
 
 returns-2 : tie.Need-returns-2 Inv-loop μ-loop
-returns-2 c = omega (arith, lead-end (c .before .before .args .s .now) (c .before .loop .i) (omega arith), c .before .loop .inv)
+returns-2 c =
+    omega (arith, lead-end (c .before .before .args .s .now) (c .before .loop .i) (omega arith), c .before .loop .inv)
 
 pub last-spec : {M : Type 1} → statement M
 last-spec =

@@ -1,5 +1,5 @@
--- `varint::long_number` meets its contract. At each `return` the tests that led there say which case of `numberAt` holds; where the two tests of the last byte meet, one lemma says that the form is the shortest.
--- Assumes nothing.
+-- `varint::long_number` meets its contract. At each `return` the tests that led there say which case of `numberAt`
+-- holds; where the two tests of the last byte meet, one lemma says that the form is the shortest. Assumes nothing.
 use borrow.Author.Needs.{needs}
 use native.Mathlib.Omega.{arith}
 use mathlib.Core.Path.{_≡_, sym, _∙_}
@@ -22,14 +22,20 @@ sub-n : tie.Need-sub-n
 sub-n c = search needs
 
 returns-2 : tie.Need-returns-2
-returns-2 c = sym (Laws.number-form _ _ _ (c .before .before .last .ensures) (omega arith) ∙ Laws.form-bad _ _ _ (Laws.formed-long _ _ (c .if2 .taken)))
+returns-2 c =
+    sym (Laws.number-form _ _ _ (c .before .before .last .ensures) (omega arith)
+    ∙ Laws.form-bad _ _ _ (Laws.formed-long _ _ (c .if2 .taken)))
 
 shared-slice-read-if4 : tie.Need-shared-slice-read-if4
 shared-slice-read-if4 c = search needs
 
 returns-3 : tie.Need-returns-3
 returns-3 c =
-    sym (Laws.number-form _ _ _ (c .before .before .before .before .before .last .ensures) (omega arith) ∙ Laws.form-bad _ _ _ (Laws.formed-padded _ _ (c .before .before .before .if2 .left) (Laws.shortest-not _ _ _ (Laws.last-byte _ _ _ (c .before .before .before .before .before .last .ensures)) (c .before .before .if3 .taken) (c .if4 .taken))))
+    sym (Laws.number-form _ _ _ (c .before .before .before .before .before .last .ensures) (omega arith)
+    ∙ Laws.form-bad _ _ _
+    (Laws.formed-padded _ _ (c .before .before .before .if2 .left)
+    (Laws.shortest-not _ _ _ (Laws.last-byte _ _ _ (c .before .before .before .before .before .last .ensures))
+    (c .before .before .if3 .taken) (c .if4 .taken))))
 
 value-requires : tie.Need-value-requires
 value-requires c κs = search needs
@@ -39,19 +45,24 @@ short : (c : tie.Joined3) →
     let a = c .before .before .before .before .before .args in
     shortest (drop (a .at) (a .s .now)) (c .before .before .before .last .result - a .at) ≡ true
 short c =
-    ⊎-elim (λ w. Laws.shortest-more _ _ _ (Laws.last-byte _ _ _ (c .before .before .before .last .ensures)) (w .2 .left))
+    ⊎-elim (λ w. Laws.shortest-more _ _ _ (Laws.last-byte _ _ _ (c .before .before .before .last .ensures))
+    (w .2 .left))
     (λ w. Laws.shortest-one _ _ (w .left)) (c .if3 .came)
 
 returns-4 : tie.Need-returns-4
 returns-4 c =
-    sym (Laws.number-form _ _ _ (c .before .before .before .before .before .last .ensures) (omega arith) ∙ Laws.form-bad _ _ _ (Laws.formed-large _ _ _ (c .before .value .ensures) (omega arith) (short (c .before .before)) (c .if5 .taken)))
+    sym (Laws.number-form _ _ _ (c .before .before .before .before .before .last .ensures) (omega arith)
+    ∙ Laws.form-bad _ _ _
+    (Laws.formed-large _ _ _ (c .before .value .ensures) (omega arith) (short (c .before .before)) (c .if5 .taken)))
 
 add-t6 : tie.Need-add-t6
 add-t6 c = search needs
 
 returns-5 : tie.Need-returns-5
 returns-5 c =
-    sym (Laws.number-form _ _ _ (c .before .before .before .before .before .last .ensures) (omega arith) ∙ Laws.form-got _ _ _ _ _ (omega arith) (c .before .value .ensures) (Laws.formed-right _ _ _ (c .before .value .ensures) (omega arith) (short (c .before .before)) (c .if5 .left)))
+    sym (Laws.number-form _ _ _ (c .before .before .before .before .before .last .ensures) (omega arith)
+    ∙ Laws.form-got _ _ _ _ _ (omega arith) (c .before .value .ensures)
+    (Laws.formed-right _ _ _ (c .before .value .ensures) (omega arith) (short (c .before .before)) (c .if5 .left)))
 
 pub long-number-spec : {M : Type 1} → statement M
 long-number-spec =

@@ -1,9 +1,9 @@
--- `varint::value` meets its contract. For none, one and two bytes before the last the definition computes to the code's sum.
--- Assumes nothing.
+-- `varint::value` meets its contract. For none, one and two bytes before the last the definition computes to the
+-- code's sum. Assumes nothing.
 use borrow.Author.Needs.{needs}
 use native.Mathlib.Omega.{arith}
 use Prim.Native.Nat.{_+_}
-use mathlib.Core.Path.{_≡_, _∙_}
+use mathlib.Core.Path.{_≡_}
 use Rattle.varint.proofs.Laws
 use Rattle.varint.proofs.value.Statement.{statement}
 use Rattle.varint.proofs.value.Tie as tie
@@ -15,7 +15,12 @@ wide-requires : tie.Need-wide-requires
 wide-requires c κs = search needs
 
 returns : tie.Need-returns
-returns c = rw (c .if1 .taken, Laws.value-last (c .before .before .before .before .args .s .now) (c .before .before .before .before .args .at) (omega arith)) (c .before .wide .ensures .0)
+returns c =
+    rw (
+      c .if1 .taken,
+      Laws.value-last (c .before .before .before .before .args .s .now)
+          (c .before .before .before .before .args .at) (omega arith),
+    ) (c .before .wide .ensures .0)
 
 add-wide : tie.Need-add-wide
 add-wide c = search needs
@@ -35,7 +40,13 @@ add-result c = search needs
 returns-2 : tie.Need-returns-2
 returns-2 c =
     let a = c .before .before .before .before .before .before .before .args in
-    rw (c .if2 .taken, Laws.value-more (a .s .now) (a .at) (omega arith) 0, Laws.value-last (a .s .now) (a .at + 1) (omega arith), c .before .before .before .before .wide .ensures .0, c .before .wide2 .ensures .0)
+    rw (
+      c .if2 .taken,
+      Laws.value-more (a .s .now) (a .at) (omega arith) 0,
+      Laws.value-last (a .s .now) (a .at + 1) (omega arith),
+      c .before .before .before .before .wide .ensures .0,
+      c .before .wide2 .ensures .0,
+    )
 
 add-wide-2 : tie.Need-add-wide-2
 add-wide-2 c = search needs
@@ -63,7 +74,16 @@ returns-3 c =
     let a = c .before .before .before .before .before .before .before .before .before .args in
     let two : a .n ≡ 2 = omega arith in
     let next : a .at + 1 + 1 ≡ a .at + 2 = omega arith in
-    rw (two, Laws.value-more (a .s .now) (a .at) (omega arith) 1, Laws.value-more (a .s .now) (a .at + 1) (omega arith) 0, Laws.value-last (a .s .now) (a .at + 1 + 1) (omega arith), next, c .before .before .before .before .before .before .wide .ensures .0, c .before .before .before .wide2 .ensures .0, c .wide3 .ensures .0)
+    rw (
+      two,
+      Laws.value-more (a .s .now) (a .at) (omega arith) 1,
+      Laws.value-more (a .s .now) (a .at + 1) (omega arith) 0,
+      Laws.value-last (a .s .now) (a .at + 1 + 1) (omega arith),
+      next,
+      c .before .before .before .before .before .before .wide .ensures .0,
+      c .before .before .before .wide2 .ensures .0,
+      c .wide3 .ensures .0,
+    )
 
 pub value-spec : {M : Type 1} → statement M
 value-spec =

@@ -1,47 +1,44 @@
-use Rattle.config.proofs.Laws
+-- `config::fields::read_field` meets its contract: the laws of `fieldAt` go by what the number reader answered.
+-- Assumes nothing.
 use borrow.Author.Needs.{needs}
+use Rattle.config.proofs.Laws
 use Rattle.config.proofs.fields.read_field.Statement.{statement}
 use Rattle.config.proofs.fields.read_field.Tie as tie
-use Rattle.config.proofs.fields.read_field.Reads as reads
-use Rattle.config.proofs.fields.read_field.Lts as lts
-use Rattle.config.proofs.fields.num_question.Reads as num-question-reads
-use Rattle.varint.proofs.decode.Reads as decode-reads
 
--- src/fields.rt:54:9
 decode-requires : tie.Need-decode-requires
 decode-requires c κs = search needs
 
--- src/fields.rt:55:18
 enum-known-n : tie.Need-enum-known-n
 enum-known-n c = search needs
 
--- src/fields.rt:56:26
 enum-told : tie.Need-enum-told
 enum-told c = search needs
 
--- src/fields.rt:56:26
 num-question-requires : tie.Need-num-question-requires
 num-question-requires c κs = search needs
 
--- src/fields.rt:56:9
 returns : tie.Need-returns
-returns c = Laws.field-bad _ _ _ _ _ (c .before .before .before .decode .ensures) _ _ (c .before .enum-told .given .1) (c .num-question .ensures)
+returns c =
+    Laws.field-bad _ _ _ _ _ (c .before .before .before .decode .ensures) _ _ (c .before .enum-told .given .1)
+    (c .num-question .ensures)
 
--- src/fields.rt:59:9
 returns-2 : tie.Need-returns-2
-returns-2 c = Laws.field-low _ _ _ _ _ (c .before .before .before .before .decode .ensures) _ _ (c .before .before .n .given .1) (c .if1 .taken)
+returns-2 c =
+    Laws.field-low _ _ _ _ _ (c .before .before .before .before .decode .ensures) _ _ (c .before .before .n .given .1)
+    (c .if1 .taken)
 
--- src/fields.rt:62:9
 returns-3 : tie.Need-returns-3
-returns-3 c = Laws.field-high _ _ _ _ _ (c .before .before .before .before .before .decode .ensures) _ _ (c .before .before .before .n .given .1) (c .if2 .taken)
+returns-3 c =
+    Laws.field-high _ _ _ _ _ (c .before .before .before .before .before .decode .ensures) _ _
+    (c .before .before .before .n .given .1) (c .if2 .taken)
 
--- src/fields.rt:64:18
 cast-t11 : tie.Need-cast-t11
 cast-t11 c = search needs
 
--- src/fields.rt:51:1
 returns-4 : tie.Need-returns-4
-returns-4 c = Laws.field-value _ _ _ _ _ (c .before .before .before .before .before .decode .ensures) _ _ (c .before .before .before .n .given .1) (c .before .if1 .left) (c .if2 .left)
+returns-4 c =
+    Laws.field-value _ _ _ _ _ (c .before .before .before .before .before .decode .ensures) _ _
+    (c .before .before .before .n .given .1) (c .before .if1 .left) (c .if2 .left)
 
 pub read-field-spec : {M : Type 1} → statement M
 read-field-spec =

@@ -1,16 +1,13 @@
+-- `config::groups::owner_least` meets its contract: by the class. Assumes nothing.
 use borrow.Author.Tests.{eq-eqb, ne-eqb}
 use Rattle.model.specs.ConfigFile.{ownerLeast}
 use Rattle.config.proofs.groups.owner_least.Statement.{statement}
 use Rattle.config.proofs.groups.owner_least.Tie as tie
-use Rattle.config.proofs.groups.owner_least.Reads as reads
-use Rattle.config.proofs.groups.owner_least.Lts as lts
 
--- src/groups.rt:72:1
 returns : tie.Need-returns
 unfolding ownerLeast
 returns c = rw (eq-eqb _ _ (c .if1 .taken))
 
--- src/groups.rt:72:1
 returns-2 : tie.Need-returns-2
 unfolding ownerLeast
 returns-2 c = rw (ne-eqb _ _ (c .if1 .left))

@@ -1,54 +1,54 @@
-use Rattle.config.specs.Columns.{devicesOf}
-use Rattle.model.specs.ConfigFile.{turns, device}
+-- `config::groups::read_devices` meets its contract: the turns from i on, from the place and the column as they are
+-- now, are those from the start. Assumes nothing.
 use borrow.Author.Needs.{needs}
 use Prim.Native.Nat.{_≤_, _-_}
 use mathlib.Core.Path.{_≡_, sym, _∙_}
+use Rattle.config.specs.Columns.{devicesOf}
+use Rattle.model.specs.ConfigFile.{turns, device}
 use Rattle.config.proofs.Laws
 use Rattle.config.proofs.groups.read_devices.Statement.{statement}
 use Rattle.config.proofs.groups.read_devices.Tie as tie
-use Rattle.config.proofs.groups.read_devices.Reads as reads
-use Rattle.config.proofs.groups.read_devices.Lts as lts
-use Rattle.config.proofs.groups.read_device.Reads as read-device-reads
 
 abbrev Inv-loop : tie.InvT-loop
-Inv-loop s counts at hardcoded₀ n i₀ p₀ hardcoded i p = (i ≤ n) × (turns (device s counts) (n - i) i p (devicesOf hardcoded) ≡ turns (device s counts) n 0 at (devicesOf hardcoded₀))
+Inv-loop s counts at hardcoded₀ n i₀ p₀ hardcoded i p =
+    (i ≤ n) × (turns (device s counts) (n - i) i p (devicesOf hardcoded)
+    ≡ turns (device s counts) n 0 at (devicesOf hardcoded₀))
 
 abbrev μ-loop : tie.MeasureT-loop
 μ-loop s counts at hardcoded₀ n i₀ p₀ hardcoded i p = n - i
 
--- src/groups.rt:184:5
 loop-holds : tie.Need-loop-holds Inv-loop μ-loop
 loop-holds c = (search needs, Laws.turns-start _ _ 0 _ _)
 
--- src/groups.rt:185:9
 add-i : tie.Need-add-i Inv-loop μ-loop
 add-i c = search needs
 
--- src/groups.rt:186:13
 read-device-requires : tie.Need-read-device-requires Inv-loop μ-loop
 read-device-requires c κs = search needs
 
--- src/groups.rt:187:25
 enum-known-r : tie.Need-enum-known-r Inv-loop μ-loop
 enum-known-r c = search needs
 
--- src/groups.rt:188:13
 enum-told : tie.Need-enum-told Inv-loop μ-loop
 enum-told c = search needs
 
--- src/groups.rt:188:13
 returns : tie.Need-returns Inv-loop μ-loop
-returns c = sym (Laws.turns-stop _ _ _ _ _ (c .before .before .before .before .loop-test .taken) (c .before .before .read-device .ensures) (c .enum-told .given .1)) ∙ c .before .before .before .before .before .loop .inv .1
+returns c =
+    sym (Laws.turns-stop _ _ _ _ _ (c .before .before .before .before .loop-test .taken)
+    (c .before .before .read-device .ensures) (c .enum-told .given .1))
+    ∙ c .before .before .before .before .before .loop .inv .1
 
--- src/groups.rt:184:5
 loop-less : tie.Need-loop-less Inv-loop μ-loop
 loop-less c = search needs
 
--- src/groups.rt:184:5
 loop-again : tie.Need-loop-again Inv-loop μ-loop
-loop-again c = (search needs, sym (Laws.turns-go _ _ _ _ _ (c .before .before .before .before .before .loop-test .taken) (c .before .before .before .read-device .ensures) (c .before .r .given .1)) ∙ c .before .before .before .before .before .before .loop .inv .1)
+loop-again c = (
+  search needs,
+  sym (Laws.turns-go _ _ _ _ _ (c .before .before .before .before .before .loop-test .taken)
+      (c .before .before .before .read-device .ensures) (c .before .r .given .1))
+      ∙ c .before .before .before .before .before .before .loop .inv .1,
+)
 
--- src/groups.rt:172:1
 returns-2 : tie.Need-returns-2 Inv-loop μ-loop
 returns-2 c = sym (Laws.turns-end _ _ _ _ _ (c .loop-test .left)) ∙ c .before .loop .inv .1
 

@@ -1,108 +1,109 @@
-use Rattle.model.specs.ConfigFile.{object, stop, read, setObject}
-use Rattle.config.proofs.Laws
+-- `config::groups::read_object` meets its contract: each field that goes on is an `on-go`, the one that is refused an
+-- `on-stop`; the stores compute to `setObject`. Assumes nothing.
 use mathlib.Core.Path.{refl}
 use borrow.Author.Needs.{needs}
+use Rattle.model.specs.ConfigFile.{object, stop, read, setObject}
+use Rattle.config.proofs.Laws
 use Rattle.config.proofs.groups.read_object.Statement.{statement}
 use Rattle.config.proofs.groups.read_object.Tie as tie
-use Rattle.config.proofs.groups.read_object.Reads as reads
-use Rattle.config.proofs.groups.read_object.Lts as lts
-use Rattle.config.proofs.fields.read_field.Reads as read-field-reads
-use Rattle.config.proofs.groups.owner_least.Reads as owner-least-reads
-use Rattle.config.proofs.groups.owner_most.Reads as owner-most-reads
-use Rattle.config.proofs.groups.refused.Reads as refused-reads
 
--- src/groups.rt:104:9
 read-field-requires : tie.Need-read-field-requires
 read-field-requires c κs = search needs
 
--- src/groups.rt:105:22
 enum-known-f : tie.Need-enum-known-f
 enum-known-f c = search needs
 
--- src/groups.rt:106:9
 enum-told : tie.Need-enum-told
 enum-told c = search needs
 
--- src/groups.rt:106:9
 refused-requires : tie.Need-refused-requires
 refused-requires c κs = search needs
 
--- src/groups.rt:106:9
 returns : tie.Need-returns
 unfolding object stop read setObject
-returns c = Laws.on-stop _ _ _ (c .before .before .before .read-field .ensures) (c .before .enum-told .given .1) (rw (c .refused .ensures))
+returns c =
+    Laws.on-stop _ _ _ (c .before .before .before .read-field .ensures) (c .before .enum-told .given .1)
+    (rw (c .refused .ensures))
 
--- src/groups.rt:108:9
 read-field-requires-2 : tie.Need-read-field-requires-2
 read-field-requires-2 c κs = search needs
 
--- src/groups.rt:109:22
 enum-known-g : tie.Need-enum-known-g
 enum-known-g c = search needs
 
--- src/groups.rt:110:9
 enum-told-2 : tie.Need-enum-told-2
 enum-told-2 c = search needs
 
--- src/groups.rt:110:9
 refused-requires-2 : tie.Need-refused-requires-2
 refused-requires-2 c κs = search needs
 
--- src/groups.rt:110:9
 returns-2 : tie.Need-returns-2
 unfolding object stop read setObject
-returns-2 c = Laws.on-go _ _ _ (c .before .before .before .before .before .before .before .read-field .ensures) (c .before .before .before .before .before .f .given .1)
-    (Laws.on-stop _ _ _ (c .before .before .before .read-field2 .ensures) (c .before .enum-told2 .given .1) (rw (c .refused2 .ensures)))
+returns-2 c =
+    Laws.on-go _ _ _ (c .before .before .before .before .before .before .before .read-field .ensures)
+    (c .before .before .before .before .before .f .given .1)
+    (Laws.on-stop _ _ _ (c .before .before .before .read-field2 .ensures) (c .before .enum-told2 .given .1)
+    (rw (c .refused2 .ensures)))
 
--- src/groups.rt:112:9
 owner-least-requires : tie.Need-owner-least-requires
 owner-least-requires c κs = search needs
 
--- src/groups.rt:113:9
 owner-most-requires : tie.Need-owner-most-requires
 owner-most-requires c κs = search needs
 
--- src/groups.rt:114:9
 read-field-requires-3 : tie.Need-read-field-requires-3
 read-field-requires-3 c κs = search needs
 
--- src/groups.rt:115:22
 enum-known-h : tie.Need-enum-known-h
 enum-known-h c = search needs
 
--- src/groups.rt:116:9
 enum-told-3 : tie.Need-enum-told-3
 enum-told-3 c = search needs
 
--- src/groups.rt:116:9
 refused-requires-3 : tie.Need-refused-requires-3
 refused-requires-3 c κs = search needs
 
--- src/groups.rt:116:9
 returns-3 : tie.Need-returns-3
 unfolding object stop read setObject
-returns-3 c = Laws.on-go _ _ _ (c .before .before .before .before .before .before .before .before .before .before .before .before .before .read-field .ensures) (c .before .before .before .before .before .before .before .before .before .before .before .f .given .1)
-    (Laws.on-go _ _ _ (c .before .before .before .before .before .before .before .before .before .read-field2 .ensures) (c .before .before .before .before .before .before .before .g .given .1)
-    (Laws.on-stop _ _ _ (cc (c .before .before .before .read-field3 .ensures, c .before .before .before .before .owner-most .ensures, c .before .before .before .before .before .owner-least .ensures)) (c .before .enum-told3 .given .1) (rw (c .refused3 .ensures))))
+returns-3 c =
+    Laws.on-go _ _ _
+    (c .before .before .before .before .before .before .before .before .before .before .before .before .before
+    .read-field .ensures)
+    (c .before .before .before .before .before .before .before .before .before .before .before .f .given .1)
+    (Laws.on-go _ _ _
+    (c .before .before .before .before .before .before .before .before .before .read-field2 .ensures)
+    (c .before .before .before .before .before .before .before .g .given .1)
+    (Laws.on-stop _ _ _ (cc (
+      c .before .before .before .read-field3 .ensures,
+      c .before .before .before .before .owner-most .ensures,
+      c .before .before .before .before .before .owner-least .ensures,
+    )) (c .before .enum-told3 .given .1)
+    (rw (c .refused3 .ensures))))
 
--- src/groups.rt:119:5
 element-write-kind : tie.Need-element-write-kind
 element-write-kind c = search needs
 
--- src/groups.rt:120:5
 element-write-class : tie.Need-element-write-class
 element-write-class c = search needs
 
--- src/groups.rt:121:5
 element-write-owner : tie.Need-element-write-owner
 element-write-owner c = search needs
 
--- src/groups.rt:92:1
 returns-4 : tie.Need-returns-4
 unfolding object stop read setObject
-returns-4 c = Laws.on-go _ _ _ (c .before .before .before .before .before .before .before .before .before .before .before .before .before .read-field .ensures) (c .before .before .before .before .before .before .before .before .before .before .before .f .given .1)
-    (Laws.on-go _ _ _ (c .before .before .before .before .before .before .before .before .before .read-field2 .ensures) (c .before .before .before .before .before .before .before .g .given .1)
-    (Laws.on-go _ _ _ (cc (c .before .before .before .read-field3 .ensures, c .before .before .before .before .owner-most .ensures, c .before .before .before .before .before .owner-least .ensures)) (c .before .h .given .1)
+returns-4 c =
+    Laws.on-go _ _ _
+    (c .before .before .before .before .before .before .before .before .before .before .before .before .before
+    .read-field .ensures)
+    (c .before .before .before .before .before .before .before .before .before .before .before .f .given .1)
+    (Laws.on-go _ _ _
+    (c .before .before .before .before .before .before .before .before .before .read-field2 .ensures)
+    (c .before .before .before .before .before .before .before .g .given .1)
+    (Laws.on-go _ _ _ (cc (
+      c .before .before .before .read-field3 .ensures,
+      c .before .before .before .before .owner-most .ensures,
+      c .before .before .before .before .before .owner-least .ensures,
+    )) (c .before .h .given .1)
     (refl)))
 
 pub read-object-spec : {M : Type 1} → statement M

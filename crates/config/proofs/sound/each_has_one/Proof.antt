@@ -1,15 +1,13 @@
-use Rattle.config.specs.Sound.{upTo, hasOne}
+-- `config::sound::each_has_one` meets its contract: devices 1 to i have passed. Assumes nothing.
 use borrow.Author.Needs.{needs}
 use Prim.Native.Nat.{_≤_, _-_}
 use borrow.Author.Tests.{eq-eqb, ne-eqb}
 use mathlib.Core.Bool.{true}
-use mathlib.Core.Path.{_≡_, sym, _∙_}
+use mathlib.Core.Path.{_≡_}
+use Rattle.config.specs.Sound.{upTo, hasOne}
 use Rattle.config.proofs.Questions
 use Rattle.config.proofs.sound.each_has_one.Statement.{statement}
 use Rattle.config.proofs.sound.each_has_one.Tie as tie
-use Rattle.config.proofs.sound.each_has_one.Reads as reads
-use Rattle.config.proofs.sound.each_has_one.Lts as lts
-use Rattle.config.proofs.sound.count_marks.Reads as count-marks-reads
 
 abbrev Inv-loop : tie.InvT-loop
 Inv-loop counts kind class owner n i₀ i = (i ≤ n) × (upTo i (hasOne kind class owner (counts .objects)) ≡ true)
@@ -17,33 +15,32 @@ Inv-loop counts kind class owner n i₀ i = (i ≤ n) × (upTo i (hasOne kind cl
 abbrev μ-loop : tie.MeasureT-loop
 μ-loop counts kind class owner n i₀ i = n - i
 
--- src/sound.rt:65:5
 loop-holds : tie.Need-loop-holds Inv-loop μ-loop
 loop-holds c = (search needs, Questions.up-start _)
 
--- src/sound.rt:66:9
 add-i : tie.Need-add-i Inv-loop μ-loop
 add-i c = search needs
 
--- src/sound.rt:67:12
 count-marks-requires : tie.Need-count-marks-requires Inv-loop μ-loop
 count-marks-requires c κs = search needs
 
--- src/sound.rt:68:13
 returns : tie.Need-returns Inv-loop μ-loop
 unfolding hasOne
-returns c = Questions.up-stop _ _ _ (c .before .before .loop-test .taken) (rw (← c .before .count-marks .ensures, ne-eqb _ _ (c .if1 .taken)))
+returns c =
+    Questions.up-stop _ _ _ (c .before .before .loop-test .taken)
+    (rw (← c .before .count-marks .ensures, ne-eqb _ _ (c .if1 .taken)))
 
--- src/sound.rt:65:5
 loop-less : tie.Need-loop-less Inv-loop μ-loop
 loop-less c = search needs
 
--- src/sound.rt:65:5
 loop-again : tie.Need-loop-again Inv-loop μ-loop
 unfolding hasOne
-loop-again c = (search needs, Questions.up-go _ _ (c .before .before .before .loop .inv .1) (rw (← c .before .count-marks .ensures, eq-eqb _ _ (c .if1 .left))))
+loop-again c = (
+  search needs,
+  Questions.up-go _ _ (c .before .before .before .loop .inv .1)
+      (rw (← c .before .count-marks .ensures, eq-eqb _ _ (c .if1 .left))),
+)
 
--- src/sound.rt:54:1
 returns-2 : tie.Need-returns-2 Inv-loop μ-loop
 returns-2 c = Questions.up-end _ _ _ (c .before .loop .inv .1) (c .before .loop .inv .0) (c .loop-test .left)
 

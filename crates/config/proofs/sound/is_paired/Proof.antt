@@ -1,28 +1,26 @@
+-- `config::sound::is_paired` meets its contract: both parts of question 5, as they are asked. Assumes nothing.
 use borrow.Author.Tests.{not-true, not-false}
-use Rattle.config.proofs.Questions
 use borrow.Author.Needs.{needs}
+use Rattle.config.proofs.Questions
 use Rattle.config.proofs.sound.is_paired.Statement.{statement}
 use Rattle.config.proofs.sound.is_paired.Tie as tie
-use Rattle.config.proofs.sound.is_paired.Reads as reads
-use Rattle.config.proofs.sound.is_paired.Lts as lts
-use Rattle.config.proofs.sound.all_device_owned.Reads as all-device-owned-reads
-use Rattle.config.proofs.sound.each_has_one.Reads as each-has-one-reads
 
--- src/sound.rt:104:9
 each-has-one-requires : tie.Need-each-has-one-requires
 each-has-one-requires c κs = search needs
 
--- src/sound.rt:105:9
 returns : tie.Need-returns
-returns c = Questions.paired-no _ _ (c .before .each-has-one .ensures) (not-true (c .before .each-has-one .result) (c .if1 .taken))
+returns c =
+    Questions.paired-no _ _ (c .before .each-has-one .ensures)
+    (not-true (c .before .each-has-one .result) (c .if1 .taken))
 
--- src/sound.rt:107:5
 all-device-owned-requires : tie.Need-all-device-owned-requires
 all-device-owned-requires c κs = search needs
 
--- src/sound.rt:98:1
 returns-2 : tie.Need-returns-2
-returns-2 c = Questions.paired-rest _ _ _ (c .before .before .before .before .before .each-has-one .ensures) (not-false (c .before .before .before .before .before .each-has-one .result) (c .before .before .before .before .if1 .left)) (c .all-device-owned .ensures)
+returns-2 c =
+    Questions.paired-rest _ _ _ (c .before .before .before .before .before .each-has-one .ensures)
+    (not-false (c .before .before .before .before .before .each-has-one .result)
+    (c .before .before .before .before .if1 .left)) (c .all-device-owned .ensures)
 
 pub is-paired-spec : {M : Type 1} → statement M
 is-paired-spec =

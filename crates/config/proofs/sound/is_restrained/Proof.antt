@@ -1,16 +1,13 @@
-use Rattle.config.specs.Sound.{upTo, deviceRestrained}
+-- `config::sound::is_restrained` meets its contract: devices 1 to i have passed. Assumes nothing.
 use borrow.Author.Needs.{needs}
 use Prim.Native.Nat.{_≤_, _-_}
 use borrow.Author.Tests.{not-true, not-false}
 use mathlib.Core.Bool.{true}
 use mathlib.Core.Path.{_≡_, sym, _∙_}
+use Rattle.config.specs.Sound.{upTo, deviceRestrained}
 use Rattle.config.proofs.Questions
 use Rattle.config.proofs.sound.is_restrained.Statement.{statement}
 use Rattle.config.proofs.sound.is_restrained.Tie as tie
-use Rattle.config.proofs.sound.is_restrained.Reads as reads
-use Rattle.config.proofs.sound.is_restrained.Lts as lts
-use Rattle.config.proofs.sound.look.Reads as look-reads
-use Rattle.config.proofs.sound.value_passes.Reads as value-passes-reads
 
 abbrev Inv-loop : tie.InvT-loop
 Inv-loop n last t d f i₀ i = (i ≤ last) × (upTo i (deviceRestrained n t d f) ≡ true)
@@ -18,43 +15,53 @@ Inv-loop n last t d f i₀ i = (i ≤ last) × (upTo i (deviceRestrained n t d f
 abbrev μ-loop : tie.MeasureT-loop
 μ-loop n last t d f i₀ i = last - i
 
--- src/sound.rt:205:5
 loop-holds : tie.Need-loop-holds Inv-loop μ-loop
 loop-holds c = (search needs, Questions.up-start _)
 
--- src/sound.rt:206:9
 add-i : tie.Need-add-i Inv-loop μ-loop
 add-i c = search needs
 
--- src/sound.rt:207:18
 cast-at : tie.Need-cast-at Inv-loop μ-loop
 cast-at c = search needs
 
--- src/sound.rt:208:13
 look-requires : tie.Need-look-requires Inv-loop μ-loop
 look-requires c κs = search needs
 
--- src/sound.rt:209:13
 value-passes-requires : tie.Need-value-passes-requires Inv-loop μ-loop
 value-passes-requires c κs = search needs
 
--- src/sound.rt:210:13
 returns : tie.Need-returns Inv-loop μ-loop
 unfolding deviceRestrained
-returns c = Questions.up-stop _ _ _ (c .before .before .before .before .before .before .before .before .before .before .before .before .before .before .before .before .before .before .loop-test .taken) (rw (← c .before .before .before .before .before .before .before .before .before .before .before .before .before .before .look .ensures) (sym (c .before .value-passes .ensures) ∙ not-true (c .before .value-passes .result) (c .if1 .taken))) ∙ Questions.restrained-same _
+returns c =
+    Questions.up-stop _ _ _
+    (c .before .before .before .before .before .before .before .before .before .before .before .before .before .before
+    .before .before .before .before .loop-test .taken)
+    (rw
+    (← c .before .before .before .before .before .before .before .before .before .before .before .before .before
+    .before .look .ensures)
+    (sym (c .before .value-passes .ensures) ∙ not-true (c .before .value-passes .result) (c .if1 .taken)))
+    ∙ Questions.restrained-same _
 
--- src/sound.rt:205:5
 loop-less : tie.Need-loop-less Inv-loop μ-loop
 loop-less c = search needs
 
--- src/sound.rt:205:5
 loop-again : tie.Need-loop-again Inv-loop μ-loop
 unfolding deviceRestrained
-loop-again c = (search needs, Questions.up-go _ _ (c .before .before .before .before .before .before .before .before .before .before .before .before .before .before .before .before .before .before .before .loop .inv .1) (rw (← c .before .before .before .before .before .before .before .before .before .before .before .before .before .before .look .ensures) (sym (c .before .value-passes .ensures) ∙ not-false (c .before .value-passes .result) (c .if1 .left))))
+loop-again c = (
+  search needs,
+  Questions.up-go _ _
+      (c .before .before .before .before .before .before .before .before .before .before .before .before .before .before
+      .before .before .before .before .before .loop .inv .1)
+      (rw
+      (← c .before .before .before .before .before .before .before .before .before .before .before .before .before
+      .before .look .ensures)
+      (sym (c .before .value-passes .ensures) ∙ not-false (c .before .value-passes .result) (c .if1 .left))),
+)
 
--- src/sound.rt:196:1
 returns-2 : tie.Need-returns-2 Inv-loop μ-loop
-returns-2 c = Questions.up-end _ _ _ (c .before .loop .inv .1) (c .before .loop .inv .0) (c .loop-test .left) ∙ Questions.restrained-same _
+returns-2 c =
+    Questions.up-end _ _ _ (c .before .loop .inv .1) (c .before .loop .inv .0) (c .loop-test .left)
+    ∙ Questions.restrained-same _
 
 pub is-restrained-spec : {M : Type 1} → statement M
 is-restrained-spec =

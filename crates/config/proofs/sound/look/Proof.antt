@@ -1,20 +1,16 @@
+-- `config::sound::look` meets its contract: past the end the definition gives 0. Assumes nothing.
 use lib.ListN.{List·getD-eq-default}
 use mathlib.Core.Path.{sym}
 use borrow.Author.Needs.{needs}
 use Rattle.config.proofs.sound.look.Statement.{statement}
 use Rattle.config.proofs.sound.look.Tie as tie
-use Rattle.config.proofs.sound.look.Reads as reads
-use Rattle.config.proofs.sound.look.Lts as lts
 
--- src/sound.rt:21:22
 shared-slice-read-result : tie.Need-shared-slice-read-result
 shared-slice-read-result c = search needs
 
--- src/sound.rt:18:1
 returns : tie.Need-returns
 returns c = search needs
 
--- src/sound.rt:18:1
 returns-2 : tie.Need-returns-2
 returns-2 c = sym (List·getD-eq-default (c .before .args .a .now) 0 (c .if1 .left))
 

@@ -1,15 +1,12 @@
+-- `config::sound::mark` meets its contract: by the test. Assumes nothing.
 use Rattle.config.specs.Sound.{markOf}
 use Rattle.config.proofs.sound.mark.Statement.{statement}
 use Rattle.config.proofs.sound.mark.Tie as tie
-use Rattle.config.proofs.sound.mark.Reads as reads
-use Rattle.config.proofs.sound.mark.Lts as lts
 
--- src/sound.rt:25:1
 returns : tie.Need-returns
 unfolding markOf
 returns c = rw (c .if1 .taken)
 
--- src/sound.rt:25:1
 returns-2 : tie.Need-returns-2
 unfolding markOf
 returns-2 c = rw (c .if1 .left)

@@ -1,25 +1,18 @@
-use Rattle.config.specs.Sound.{mayName}
-use Rattle.model.specs.Config.{from1to}
+-- `config::sound::may_name` meets its contract: the tests are the definition's. Assumes nothing.
 use borrow.Author.Needs.{needs}
+use Rattle.config.specs.Sound.{mayName}
 use Rattle.config.proofs.sound.may_name.Statement.{statement}
 use Rattle.config.proofs.sound.may_name.Tie as tie
-use Rattle.config.proofs.sound.may_name.Reads as reads
-use Rattle.config.proofs.sound.may_name.Lts as lts
-use Rattle.config.proofs.sound.look.Reads as look-reads
 
--- src/sound.rt:123:9
 look-requires : tie.Need-look-requires
 look-requires c κs = search needs
 
--- src/sound.rt:124:9
 look-requires-2 : tie.Need-look-requires-2
 look-requires-2 c κs = search needs
 
--- src/sound.rt:125:9
 look-requires-3 : tie.Need-look-requires-3
 look-requires-3 c κs = search needs
 
--- src/sound.rt:111:1
 returns : tie.Need-returns
 unfolding mayName
 returns c = rw (c .before .before .look .ensures, c .before .look2 .ensures, c .look3 .ensures)

@@ -1,55 +1,56 @@
-use Rattle.config.specs.Columns.{valuesOf}
-use Rattle.model.specs.ConfigFile.{turns, entry}
+-- `config::values::read_entries` meets its contract: the turns from i on, from the place and the table as they are
+-- now, are those from the start. Assumes nothing.
 use borrow.Author.Needs.{needs}
 use mathlib.Core.List.{List}
 use Prim.Native.Nat.{ℕ, _≤_, _-_}
 use mathlib.Core.Path.{_≡_, sym, _∙_}
+use Rattle.config.specs.Columns.{valuesOf}
+use Rattle.model.specs.ConfigFile.{turns, entry}
 use Rattle.config.proofs.Laws
 use Rattle.config.proofs.values.read_entries.Statement.{statement}
 use Rattle.config.proofs.values.read_entries.Tie as tie
-use Rattle.config.proofs.values.read_entries.Reads as reads
-use Rattle.config.proofs.values.read_entries.Lts as lts
-use Rattle.config.proofs.values.read_entry.Reads as read-entry-reads
 
 abbrev Inv-loop : tie.InvT-loop
-Inv-loop s counts kinds v n at entries₀ i₀ p₀ entries i p = (i ≤ n) × ((count : List ℕ) → turns (entry s counts kinds v) (n - i) i p (valuesOf count entries) ≡ turns (entry s counts kinds v) n 0 at (valuesOf count entries₀))
+Inv-loop s counts kinds v n at entries₀ i₀ p₀ entries i p =
+    (i ≤ n) × ((count : List ℕ) → turns (entry s counts kinds v) (n - i) i p (valuesOf count entries)
+    ≡ turns (entry s counts kinds v) n 0 at (valuesOf count entries₀))
 
 abbrev μ-loop : tie.MeasureT-loop
 μ-loop s counts kinds v n at entries₀ i₀ p₀ entries i p = n - i
 
--- src/values.rt:82:5
 loop-holds : tie.Need-loop-holds Inv-loop μ-loop
 loop-holds c = (search needs, λ count. Laws.turns-start _ _ 0 _ _)
 
--- src/values.rt:83:9
 add-i : tie.Need-add-i Inv-loop μ-loop
 add-i c = search needs
 
--- src/values.rt:84:13
 read-entry-requires : tie.Need-read-entry-requires Inv-loop μ-loop
 read-entry-requires c κs = search needs
 
--- src/values.rt:85:25
 enum-known-r : tie.Need-enum-known-r Inv-loop μ-loop
 enum-known-r c = search needs
 
--- src/values.rt:86:13
 enum-told : tie.Need-enum-told Inv-loop μ-loop
 enum-told c = search needs
 
--- src/values.rt:86:13
 returns : tie.Need-returns Inv-loop μ-loop
-returns c = λ count. sym (Laws.turns-stop _ _ _ _ _ (c .before .before .before .before .loop-test .taken) (c .before .before .read-entry .ensures count) (c .enum-told .given .1)) ∙ c .before .before .before .before .before .loop .inv .1 count
+returns c =
+    λ count. sym (Laws.turns-stop _ _ _ _ _ (c .before .before .before .before .loop-test .taken)
+    (c .before .before .read-entry .ensures count) (c .enum-told .given .1))
+    ∙ c .before .before .before .before .before .loop .inv .1 count
 
--- src/values.rt:82:5
 loop-less : tie.Need-loop-less Inv-loop μ-loop
 loop-less c = search needs
 
--- src/values.rt:82:5
 loop-again : tie.Need-loop-again Inv-loop μ-loop
-loop-again c = (search needs, λ count. sym (Laws.turns-go _ _ _ _ _ (c .before .before .before .before .before .loop-test .taken) (c .before .before .before .read-entry .ensures count) (c .before .r .given .1)) ∙ c .before .before .before .before .before .before .loop .inv .1 count)
+loop-again c = (
+  search needs,
+  λ count. sym
+      (Laws.turns-go _ _ _ _ _ (c .before .before .before .before .before .loop-test .taken)
+      (c .before .before .before .read-entry .ensures count) (c .before .r .given .1))
+      ∙ c .before .before .before .before .before .before .loop .inv .1 count,
+)
 
--- src/values.rt:67:1
 returns-2 : tie.Need-returns-2 Inv-loop μ-loop
 returns-2 c = λ count. sym (Laws.turns-end _ _ _ _ _ (c .loop-test .left)) ∙ c .before .loop .inv .1 count
 

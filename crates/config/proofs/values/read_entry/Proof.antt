@@ -1,117 +1,112 @@
-use Rattle.model.specs.ConfigFile.{entry, stop, read, setEntry}
+-- `config::values::read_entry` meets its contract: each field that goes on is an `on-go`, the one that is refused an
+-- `on-stop`; the stores compute to `setEntry`. Assumes nothing.
 use native.Mathlib.Omega.{arith}
-use Rattle.config.proofs.Laws
-use mathlib.Core.Path.{refl}
 use borrow.Author.Needs.{needs}
+use Rattle.model.specs.ConfigFile.{entry, stop, read, setEntry}
+use Rattle.config.proofs.Laws
 use Rattle.config.proofs.values.read_entry.Statement.{statement}
 use Rattle.config.proofs.values.read_entry.Tie as tie
-use Rattle.config.proofs.values.read_entry.Reads as reads
-use Rattle.config.proofs.values.read_entry.Lts as lts
-use Rattle.config.proofs.fields.read_field.Reads as read-field-reads
-use Rattle.config.proofs.groups.refused.Reads as refused-reads
-use Rattle.config.proofs.values.stored_most.Reads as stored-most-reads
-use Rattle.model.proofs.entry_place.Reads as entry-place-reads
 
--- src/values.rt:46:9
 read-field-requires : tie.Need-read-field-requires
 read-field-requires c κs = search needs
 
--- src/values.rt:47:22
 enum-known-f : tie.Need-enum-known-f
 enum-known-f c = search needs
 
--- src/values.rt:48:9
 enum-told : tie.Need-enum-told
 enum-told c = search needs
 
--- src/values.rt:48:9
 refused-requires : tie.Need-refused-requires
 refused-requires c κs = search needs
 
--- src/values.rt:48:9
 returns : tie.Need-returns
 unfolding entry stop read setEntry
-returns c = λ count. Laws.on-stop _ _ _ (c .before .before .before .read-field .ensures) (c .before .enum-told .given .1) (rw (c .refused .ensures))
+returns c =
+    λ count. Laws.on-stop _ _ _ (c .before .before .before .read-field .ensures) (c .before .enum-told .given .1)
+    (rw (c .refused .ensures))
 
--- src/values.rt:50:9
 read-field-requires-2 : tie.Need-read-field-requires-2
 read-field-requires-2 c κs = search needs
 
--- src/values.rt:51:22
 enum-known-g : tie.Need-enum-known-g
 enum-known-g c = search needs
 
--- src/values.rt:52:9
 enum-told-2 : tie.Need-enum-told-2
 enum-told-2 c = search needs
 
--- src/values.rt:52:9
 refused-requires-2 : tie.Need-refused-requires-2
 refused-requires-2 c κs = search needs
 
--- src/values.rt:52:9
 returns-2 : tie.Need-returns-2
 unfolding entry stop read setEntry
-returns-2 c = λ count. Laws.on-go _ _ _ (c .before .before .before .before .before .before .before .read-field .ensures) (c .before .before .before .before .before .f .given .1)
-    (Laws.on-stop _ _ _ (c .before .before .before .read-field2 .ensures) (c .before .enum-told2 .given .1) (rw (c .refused2 .ensures)))
+returns-2 c =
+    λ count. Laws.on-go _ _ _ (c .before .before .before .before .before .before .before .read-field .ensures)
+    (c .before .before .before .before .before .f .given .1)
+    (Laws.on-stop _ _ _ (c .before .before .before .read-field2 .ensures) (c .before .enum-told2 .given .1)
+    (rw (c .refused2 .ensures)))
 
--- src/values.rt:54:9
 stored-most-requires : tie.Need-stored-most-requires
-stored-most-requires c κs = let h = Laws.field-most _ _ _ _ (c .before .before .before .before .before .before .before .read-field .ensures) (c .before .before .before .before .before .f .given .1) in let w = c .before .before .before .before .before .before .before .before .before .args in omega (arith, h)
+stored-most-requires c κs =
+    let h = Laws.field-most _ _ _ _ (c .before .before .before .before .before .before .before .read-field .ensures)
+    (c .before .before .before .before .before .f .given .1) in
+    let w = c .before .before .before .before .before .before .before .before .before .args in omega (arith, h)
 
--- src/values.rt:55:9
 read-field-requires-3 : tie.Need-read-field-requires-3
 read-field-requires-3 c κs = search needs
 
--- src/values.rt:56:22
 enum-known-h : tie.Need-enum-known-h
 enum-known-h c = search needs
 
--- src/values.rt:57:9
 enum-told-3 : tie.Need-enum-told-3
 enum-told-3 c = search needs
 
--- src/values.rt:57:9
 refused-requires-3 : tie.Need-refused-requires-3
 refused-requires-3 c κs = search needs
 
--- src/values.rt:57:9
 returns-3 : tie.Need-returns-3
 unfolding entry stop read setEntry
-returns-3 c = λ count. Laws.on-go _ _ _ (c .before .before .before .before .before .before .before .before .before .before .before .before .read-field .ensures) (c .before .before .before .before .before .before .before .before .before .before .f .given .1)
-    (Laws.on-go _ _ _ (c .before .before .before .before .before .before .before .before .read-field2 .ensures) (c .before .before .before .before .before .before .g .given .1)
-    (Laws.on-stop _ _ _ (cc (c .before .before .before .read-field3 .ensures, c .before .before .before .before .stored-most .ensures)) (c .before .enum-told3 .given .1) (rw (c .refused3 .ensures))))
+returns-3 c =
+    λ count. Laws.on-go _ _ _
+    (c .before .before .before .before .before .before .before .before .before .before .before .before .read-field
+    .ensures) (c .before .before .before .before .before .before .before .before .before .before .f .given .1)
+    (Laws.on-go _ _ _ (c .before .before .before .before .before .before .before .before .read-field2 .ensures)
+    (c .before .before .before .before .before .before .g .given .1)
+    (Laws.on-stop _ _ _ (cc
+    (c .before .before .before .read-field3 .ensures, c .before .before .before .before .stored-most .ensures))
+    (c .before .enum-told3 .given .1) (rw (c .refused3 .ensures))))
 
--- src/values.rt:59:9
 entry-place-requires : tie.Need-entry-place-requires
 entry-place-requires c κs = search needs
 
--- src/values.rt:60:5
 element-write-entries : tie.Need-element-write-entries
 element-write-entries c = search needs
 
--- src/values.rt:61:13
 add-entries : tie.Need-add-entries
 add-entries c = search needs
 
--- src/values.rt:61:5
 element-write-entries-2 : tie.Need-element-write-entries-2
 element-write-entries-2 c = search needs
 
--- src/values.rt:62:13
 add-entries-2 : tie.Need-add-entries-2
 add-entries-2 c = search needs
 
--- src/values.rt:62:5
 element-write-entries-3 : tie.Need-element-write-entries-3
 element-write-entries-3 c = search needs
 
--- src/values.rt:33:1
 returns-4 : tie.Need-returns-4
 unfolding entry stop read setEntry
-returns-4 c = λ count. Laws.on-go _ _ _ (c .before .before .before .before .before .before .before .before .before .before .before .before .before .read-field .ensures) (c .before .before .before .before .before .before .before .before .before .before .before .f .given .1)
-    (Laws.on-go _ _ _ (c .before .before .before .before .before .before .before .before .before .read-field2 .ensures) (c .before .before .before .before .before .before .before .g .given .1)
-    (Laws.on-go _ _ _ (cc (c .before .before .before .before .read-field3 .ensures, c .before .before .before .before .before .stored-most .ensures)) (c .before .before .h .given .1)
+returns-4 c =
+    λ count. Laws.on-go _ _ _
+    (c .before .before .before .before .before .before .before .before .before .before .before .before .before
+    .read-field .ensures)
+    (c .before .before .before .before .before .before .before .before .before .before .before .f .given .1)
+    (Laws.on-go _ _ _
+    (c .before .before .before .before .before .before .before .before .before .read-field2 .ensures)
+    (c .before .before .before .before .before .before .before .g .given .1)
+    (Laws.on-go _ _ _ (cc (
+      c .before .before .before .before .read-field3 .ensures,
+      c .before .before .before .before .before .stored-most .ensures,
+    )) (c .before .before .h .given .1)
     (rw (c .entry-place .ensures))))
 
 pub read-entry-spec : {M : Type 1} → statement M
