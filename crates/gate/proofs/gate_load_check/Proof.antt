@@ -1,21 +1,16 @@
-use Rattle.model.specs.declared.Loaded.{Loaded}
-use mathlib.Core.Path.{_≡_, ap}
+-- `gate::gate_load_check` meets its contract: the answer is the loader's. Assumes nothing.
+use mathlib.Core.Path.{ap}
 use borrow.Author.Needs.{needs}
+use Rattle.model.specs.declared.Loaded.{Loaded}
 use Rattle.gate.proofs.gate_load_check.Statement.{statement}
 use Rattle.gate.proofs.gate_load_check.Tie as tie
-use Rattle.gate.proofs.gate_load_check.Reads as reads
-use Rattle.gate.proofs.gate_load_check.Lts as lts
-use Rattle.config.proofs.load.Reads as load-reads
 
--- src/lib.rt:10:9
 load-requires : tie.Need-load-requires
 load-requires c κs = search needs
 
--- src/lib.rt:11:5
 cast-result : tie.Need-cast-result
 cast-result c = search needs
 
--- src/lib.rt:6:1
 returns : tie.Need-returns
 returns c = ap (λ (l : Loaded). l .answer) (c .before .load .ensures)
 
