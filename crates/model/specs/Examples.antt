@@ -30,7 +30,8 @@ unfolding Number.lead Number.valueOf Number.shortest Number.formed Number.formAt
     blank entriesFrom entries File.ranged File.fieldAt File.onField File.read File.stop File.onReading File.turns
     File.countsAt File.ownerLeast File.ownerMost File.setObject File.object File.setDevice File.device File.storedMost
     File.setEntry File.entry File.setCount File.value File.objectsAt File.devicesAt File.valuesAt File.paired
-    File.restrained File.accepted File.refused File.ask File.judged File.afterCounts File.afterGroup File.groupsFrom load
+    File.restrained File.accepted File.refused File.ask File.judged File.afterCounts File.afterGroup File.groupsFrom
+    load
 fileAnswer file = (load file) .answer
 
 -- question 10: the answer to an operation's bytes, with all that reading it computes with
