@@ -1,0 +1,4 @@
+pub mod Splicing
+pub mod Places
+pub mod Forms
+pub mod Turns

@@ -1,0 +1,65 @@
+-- `state::formed::objects_formed` meets its contract: after i turns the first i records are right. Assumes nothing.
+use Prim.Native.Nat.{_-_, _≤_}
+use mathlib.Core.Path.{_≡_}
+use mathlib.Core.Bool.{true}
+use borrow.Author.Needs.{needs}
+use Rattle.model.specs.State.{view}
+use Rattle.state.specs.Change.{configOf}
+use Rattle.state.specs.Formed.{objectsRight}
+use Rattle.state.proofs.Forms.{objects-none, objects-end, objects-place, objects-content, objects-on}
+use Rattle.state.proofs.formed.objects_formed.Statement.{statement}
+use Rattle.state.proofs.formed.objects_formed.Tie as tie
+
+abbrev Inv-loop : tie.InvT-loop
+Inv-loop area room objects values kind class owner hardcoded i₀ i = (i ≤ room)
+    × (objectsRight (configOf objects values kind class owner hardcoded) (view room area) i ≡ true)
+
+abbrev μ-loop : tie.MeasureT-loop
+μ-loop area room objects values kind class owner hardcoded i₀ i = room - i
+
+loop-holds : tie.Need-loop-holds Inv-loop μ-loop
+loop-holds c = (search needs, search objects-none)
+
+add-i : tie.Need-add-i Inv-loop μ-loop
+add-i c = search needs
+
+place-formed-requires : tie.Need-place-formed-requires Inv-loop μ-loop
+place-formed-requires c κs = search needs
+
+returns : tie.Need-returns Inv-loop μ-loop
+returns c = search objects-place
+
+content-requires : tie.Need-content-requires Inv-loop μ-loop
+content-requires c κs = search needs
+
+content-formed-requires : tie.Need-content-formed-requires Inv-loop μ-loop
+content-formed-requires c κs = search needs
+
+returns-2 : tie.Need-returns-2 Inv-loop μ-loop
+returns-2 c = search objects-content
+
+loop-less : tie.Need-loop-less Inv-loop μ-loop
+loop-less c = search needs
+
+loop-again : tie.Need-loop-again Inv-loop μ-loop
+loop-again c = (search needs, search objects-on)
+
+returns-3 : tie.Need-returns-3 Inv-loop μ-loop
+returns-3 c = search objects-end
+
+pub objects-formed-spec : {M : Type 1} → statement M
+objects-formed-spec =
+    tie.close
+    (tie.spec
+    Inv-loop
+    μ-loop
+    loop-holds
+    add-i
+    place-formed-requires
+    returns
+    content-requires
+    content-formed-requires
+    returns-2
+    loop-less
+    loop-again
+    returns-3)

@@ -1,0 +1,54 @@
+-- `state::formed::well_formed` meets its contract: a law for each part of the question. Assumes nothing.
+use borrow.Author.Needs.{needs}
+use Rattle.state.proofs.Forms.{formed-status, formed-drivers, formed-devices, formed-objects}
+use Rattle.state.proofs.formed.well_formed.Statement.{statement}
+use Rattle.state.proofs.formed.well_formed.Tie as tie
+
+statuses-formed-requires : tie.Need-statuses-formed-requires
+statuses-formed-requires c κs = search needs
+
+returns : tie.Need-returns
+returns c = search formed-status
+
+cast-drivers-formed : tie.Need-cast-drivers-formed
+cast-drivers-formed c = search needs
+
+drivers-formed-requires : tie.Need-drivers-formed-requires
+drivers-formed-requires c κs = search needs
+
+returns-2 : tie.Need-returns-2
+returns-2 c = search formed-drivers
+
+cast-devices-formed : tie.Need-cast-devices-formed
+cast-devices-formed c = search needs
+
+devices-formed-requires : tie.Need-devices-formed-requires
+devices-formed-requires c κs = search needs
+
+returns-3 : tie.Need-returns-3
+returns-3 c = search formed-devices
+
+cast-objects-formed : tie.Need-cast-objects-formed
+cast-objects-formed c = search needs
+
+objects-formed-requires : tie.Need-objects-formed-requires
+objects-formed-requires c κs = search needs
+
+returns-4 : tie.Need-returns-4
+returns-4 c = search formed-objects
+
+pub well-formed-spec : {M : Type 1} → statement M
+well-formed-spec =
+    tie.close
+    (tie.spec
+    statuses-formed-requires
+    returns
+    cast-drivers-formed
+    drivers-formed-requires
+    returns-2
+    cast-devices-formed
+    devices-formed-requires
+    returns-3
+    cast-objects-formed
+    objects-formed-requires
+    returns-4)

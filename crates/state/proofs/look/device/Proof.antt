@@ -1,0 +1,27 @@
+-- `state::look::device` meets its contract: the byte of a device, or 0. Assumes nothing.
+use borrow.Author.Needs.{needs}
+use Rattle.state.proofs.Places.{device-in, device-out}
+use Rattle.state.proofs.look.device.Statement.{statement}
+use Rattle.state.proofs.look.device.Tie as tie
+
+returns : tie.Need-returns
+returns c = search needs
+
+sub-result : tie.Need-sub-result
+sub-result c = search needs
+
+add-result : tie.Need-add-result
+add-result c = search needs
+
+shared-slice-read-result : tie.Need-shared-slice-read-result
+shared-slice-read-result c = search needs
+
+returns-2 : tie.Need-returns-2
+returns-2 c = search device-in
+
+returns-3 : tie.Need-returns-3
+returns-3 c = search device-out
+
+pub device-spec : {M : Type 1} → statement M
+device-spec =
+    tie.close (tie.spec returns sub-result add-result shared-slice-read-result returns-2 returns-3)

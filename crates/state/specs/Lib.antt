@@ -1,0 +1,4 @@
+pub mod Splice
+pub mod Change
+pub mod Formed
+pub mod Fresh

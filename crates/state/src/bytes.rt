@@ -1,0 +1,53 @@
+// Single bytes, and sixteen of them by value, read out of a slice and stored into one.
+ghost use mathlib.Core.Path.{_≡_};
+ghost use Prim.Native.Nat.{_+_, _≤_};
+ghost use lib.ListN.{length, getD};
+ghost use Rattle.model.specs.State.{contentBytes, valueBytes};
+ghost use Rattle.state.specs.Splice.{splice, part};
+use model::CONTENT_BYTES;
+
+// What a column has at place i, and 0 past its end.
+pub fn byte_at(column: &[u8], i: usize) -> u8
+    ensures { λ r. ⌜ r ≡ getD (now (column .entry)) i 0 ⌝ }
+{
+    if i < column.len() { column[i] } else { 0 }
+}
+
+// n bytes of `src` from place `from` on go to `dst`, from place `to` on.
+pub fn copy(src: &[u8], from: usize, dst: &mut [u8], to: usize, n: usize)
+    requires { ⌜ (from + n ≤ length (now src)) × (to + n ≤ length (now dst)) ⌝ }
+    ensures { λ _. ⌜ now (dst .exit) ≡ splice (now (dst .entry)) to (part (now (src .entry)) from n) ⌝ }
+{
+    let mut i = 0;
+    while i < n {
+        dst[to + i] = src[from + i];
+        i += 1;
+    }
+}
+
+// The sixteen bytes from place `at` on.
+pub fn load(s: &[u8], at: usize) -> [u8; CONTENT_BYTES]
+    requires { ⌜ at + contentBytes ≤ length (now s) ⌝ }
+    ensures { λ r. ⌜ r ≡ part (now (s .entry)) at contentBytes ⌝ }
+{
+    let mut out = [0u8; CONTENT_BYTES];
+    copy(s, at, &mut out, 0, CONTENT_BYTES);
+    out
+}
+
+// Sixteen bytes go to place `at`.
+pub fn save(s: &mut [u8], at: usize, v: [u8; CONTENT_BYTES])
+    requires { ⌜ at + contentBytes ≤ length (now s) ⌝ }
+    ensures { λ _. ⌜ now (s .exit) ≡ splice (now (s .entry)) at v ⌝ }
+{
+    copy(&v, 0, s, at, CONTENT_BYTES);
+}
+
+// The sixteen bytes of a value number: the number, then zeros.
+pub fn value_bytes(v: u8) -> [u8; CONTENT_BYTES]
+    ensures { λ r. ⌜ r ≡ valueBytes v ⌝ }
+{
+    let mut out = [0u8; CONTENT_BYTES];
+    out[0] = v;
+    out
+}

@@ -1,0 +1,233 @@
+// Question 9: is the state well formed?
+ghost use mathlib.Core.Path.{_≡_};
+ghost use mathlib.Core.List.{[]};
+ghost use lib.ListN.{length};
+ghost use Rattle.model.specs.Config.{mostDrivers, mostDevices};
+ghost use Rattle.model.specs.State.{areaLength, view, wellFormed};
+ghost use Rattle.state.specs.Change.{configOf};
+ghost use Rattle.state.specs.Formed.{statusesRight, isAssigned, assignmentRight, driversRight, devicesRight};
+ghost use Rattle.state.specs.Formed.{objectsRight, isValue, contentRight, placeRight};
+use crate::DEVICE_BYTES;
+use crate::DRIVER_BYTES;
+use crate::PARTITIONS;
+use crate::bytes::byte_at;
+use crate::look::content;
+use crate::look::device;
+use crate::look::driver;
+use crate::look::object;
+use crate::look::status;
+use model::CONTENT_BYTES;
+use model::Config;
+
+// Every status is 0, 1 or 2, and that of partition 0 is 0.
+fn statuses_formed(area: &[u8], room: usize) -> bool
+    requires { ⌜ length (now area) ≡ areaLength room ⌝ }
+    ensures { λ r. ⌜ r ≡ statusesRight (view room (now (area .entry))) ⌝ }
+{
+    if area[0] != 0 {
+        return false;
+    }
+    let mut i = 0;
+    while i < PARTITIONS {
+        if area[i] > 2 {
+            return false;
+        }
+        i += 1;
+    }
+    true
+}
+
+// A partition byte is 0 or names an existing partition.
+fn is_assigned(area: &[u8], room: usize, p: u8) -> bool
+    requires { ⌜ length (now area) ≡ areaLength room ⌝ }
+    ensures { λ r. ⌜ r ≡ isAssigned (view room (now (area .entry))) p ⌝ }
+{
+    if p == 0 {
+        return true;
+    }
+    status(area, room, p as usize) == 1
+}
+
+// The partition byte p of driver or device n, of which there are `many`.
+fn assignment_formed(area: &[u8], room: usize, many: usize, n: usize, p: u8) -> bool
+    requires { ⌜ length (now area) ≡ areaLength room ⌝ }
+    ensures { λ r. ⌜ r ≡ assignmentRight (view room (now (area .entry))) many n p ⌝ }
+{
+    if n <= many {
+        is_assigned(area, room, p)
+    } else {
+        p == 0
+    }
+}
+
+// The partition bytes of all drivers.
+fn drivers_formed(area: &[u8], room: usize, many: usize) -> bool
+    requires { ⌜ length (now area) ≡ areaLength room ⌝ }
+    ensures { λ r. ⌜ r ≡ driversRight (view room (now (area .entry))) many mostDrivers ⌝ }
+{
+    let mut i = 0;
+    while i < DRIVER_BYTES {
+        i += 1;
+        let p = driver(area, room, i);
+        if !assignment_formed(area, room, many, i, p) {
+            return false;
+        }
+    }
+    true
+}
+
+// The partition bytes of all devices.
+fn devices_formed(area: &[u8], room: usize, many: usize) -> bool
+    requires { ⌜ length (now area) ≡ areaLength room ⌝ }
+    ensures { λ r. ⌜ r ≡ devicesRight (view room (now (area .entry))) many mostDevices ⌝ }
+{
+    let mut i = 0;
+    while i < DEVICE_BYTES {
+        i += 1;
+        let p = device(area, room, i);
+        if !assignment_formed(area, room, many, i, p) {
+            return false;
+        }
+    }
+    true
+}
+
+// The sixteen bytes are those of value number v.
+fn is_value(c: [u8; CONTENT_BYTES], v: u8) -> bool
+    ensures { λ r. ⌜ r ≡ isValue c v ⌝ }
+{
+    if c[0] != v {
+        return false;
+    }
+    let mut i = 1;
+    while i < CONTENT_BYTES {
+        if c[i] != 0 {
+            return false;
+        }
+        i += 1;
+    }
+    true
+}
+
+// The contents c of object n, which may be absent.
+fn content_formed<'a>(
+    objects: usize,
+    values: u8,
+    kind: &'a [u8],
+    owner: &'a [u8],
+    hardcoded: &'a [u8],
+    n: usize,
+    c: [u8; CONTENT_BYTES],
+) -> bool
+    ensures { λ r.
+        ⌜ r ≡ contentRight
+        (configOf objects values (now (kind .entry)) [] (now (owner .entry)) (now (hardcoded .entry))) n c ⌝ }
+{
+    if objects < n {
+        return is_value(c, 0);
+    }
+    let k = byte_at(kind, n);
+    if k == 1 {
+        let v = c[0];
+        if values < v {
+            return false;
+        }
+        return is_value(c, v);
+    }
+    if k == 4 {
+        let o = byte_at(owner, n);
+        let v = byte_at(hardcoded, o as usize);
+        return is_value(c, v);
+    }
+    true
+}
+
+// The partition of object n: its owner's, if it has one; 0, if the object is absent.
+fn place_formed<'a>(
+    area: &[u8],
+    room: usize,
+    objects: usize,
+    class: &'a [u8],
+    owner: &'a [u8],
+    n: usize,
+) -> bool
+    requires { ⌜ length (now area) ≡ areaLength room ⌝ }
+    ensures { λ r.
+        ⌜ r ≡ placeRight (configOf objects 0 [] (now (class .entry)) (now (owner .entry)) [])
+        (view room (now (area .entry))) n ⌝ }
+{
+    let p = object(area, room, n);
+    if objects < n {
+        return p == 0;
+    }
+    if !is_assigned(area, room, p) {
+        return false;
+    }
+    let k = byte_at(class, n);
+    if k == 1 {
+        let o = byte_at(owner, n);
+        return p == driver(area, room, o as usize);
+    }
+    if k == 2 {
+        let o = byte_at(owner, n);
+        return p == device(area, room, o as usize);
+    }
+    true
+}
+
+// The records of all objects, present and absent.
+fn objects_formed<'a>(
+    area: &[u8],
+    room: usize,
+    objects: usize,
+    values: u8,
+    kind: &'a [u8],
+    class: &'a [u8],
+    owner: &'a [u8],
+    hardcoded: &'a [u8],
+) -> bool
+    requires { ⌜ length (now area) ≡ areaLength room ⌝ }
+    ensures { λ r.
+        ⌜ r ≡ objectsRight
+        (configOf objects values (now (kind .entry)) (now (class .entry)) (now (owner .entry))
+        (now (hardcoded .entry))) (view room (now (area .entry))) room ⌝ }
+{
+    let mut i = 0;
+    while i < room {
+        i += 1;
+        if !place_formed(area, room, objects, class, owner, i) {
+            return false;
+        }
+        let c = content(area, room, i);
+        if !content_formed(objects, values, kind, owner, hardcoded, i, c) {
+            return false;
+        }
+    }
+    true
+}
+
+// Question 9, for an area of the right length.
+pub fn well_formed(area: &[u8], room: usize, config: Config) -> bool
+    requires { ⌜ length (now area) ≡ areaLength room ⌝ }
+    ensures { λ r. ⌜ r ≡ wellFormed room config (view room (now (area .entry))) ⌝ }
+{
+    if !statuses_formed(area, room) {
+        return false;
+    }
+    if !drivers_formed(area, room, config.counts.drivers as usize) {
+        return false;
+    }
+    if !devices_formed(area, room, config.counts.devices as usize) {
+        return false;
+    }
+    objects_formed(
+        area,
+        room,
+        config.counts.objects as usize,
+        config.counts.values,
+        &config.objects.kind,
+        &config.objects.class,
+        &config.objects.owner,
+        &config.devices.hardcoded,
+    )
+}

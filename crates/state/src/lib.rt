@@ -1,0 +1,28 @@
+// The state area: lookups, contents of sixteen bytes, changes, a fresh state, and question 9. The area is lent as a
+// slice; `room` is how many object records it has.
+pub mod bytes;
+pub mod change;
+pub mod formed;
+pub mod fresh;
+pub mod look;
+
+use model::CONTENT_BYTES;
+use model::MOST_DEVICES;
+use model::MOST_DRIVERS;
+
+// The area (document 01, 'State area'): the status of partitions 0 to 63, a byte for each driver, a byte for each
+// device, and a record for each object: its partition, then its contents.
+pub const PARTITIONS: usize = 64;
+
+pub const DRIVER_BYTES: usize = MOST_DRIVERS as usize;
+
+pub const DEVICE_BYTES: usize = MOST_DEVICES as usize;
+
+pub const RECORD_BYTES: usize = CONTENT_BYTES + 1;
+
+// Where the drivers' bytes, the devices' bytes and the records begin.
+pub const DRIVERS_FROM: usize = PARTITIONS;
+
+pub const DEVICES_FROM: usize = DRIVERS_FROM + DRIVER_BYTES;
+
+pub const RECORDS_FROM: usize = DEVICES_FROM + DEVICE_BYTES;

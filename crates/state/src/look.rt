@@ -1,0 +1,107 @@
+// What an area shows of partitions, drivers, devices and objects. A number that names nothing shows 0.
+ghost use mathlib.Core.Path.{_≡_};
+ghost use Prim.Native.Nat.{_≤_};
+ghost use lib.ListN.{length};
+ghost use lib.Dec.{eqb};
+ghost use Rattle.model.specs.Number.{mostNumber};
+ghost use Rattle.model.specs.State.{statusOf, driverIn, deviceIn, objectIn, contentOf, held, areaLength, view};
+use crate::DEVICE_BYTES;
+use crate::DEVICES_FROM;
+use crate::DRIVER_BYTES;
+use crate::DRIVERS_FROM;
+use crate::PARTITIONS;
+use crate::RECORD_BYTES;
+use crate::RECORDS_FROM;
+use crate::bytes::load;
+use model::CONTENT_BYTES;
+
+// Question 7: has the area the length for `room` object records?
+pub fn right_length(area: &[u8], room: usize) -> bool
+    requires { ⌜ room ≤ mostNumber ⌝ }
+    ensures { λ r. ⌜ r ≡ eqb (length (now (area .entry))) (areaLength room) ⌝ }
+{
+    area.len() == RECORDS_FROM + RECORD_BYTES * room
+}
+
+// The status of partition p.
+pub fn status(area: &[u8], room: usize, p: usize) -> u8
+    requires { ⌜ length (now area) ≡ areaLength room ⌝ }
+    ensures { λ r. ⌜ r ≡ statusOf (view room (now (area .entry))) p ⌝ }
+{
+    if p < PARTITIONS { area[p] } else { 0 }
+}
+
+// The partition of driver d.
+pub fn driver(area: &[u8], room: usize, d: usize) -> u8
+    requires { ⌜ length (now area) ≡ areaLength room ⌝ }
+    ensures { λ r. ⌜ r ≡ driverIn (view room (now (area .entry))) d ⌝ }
+{
+    if d == 0 {
+        return 0;
+    }
+    if d <= DRIVER_BYTES {
+        area[DRIVERS_FROM - 1 + d]
+    } else {
+        0
+    }
+}
+
+// The partition of device c.
+pub fn device(area: &[u8], room: usize, c: usize) -> u8
+    requires { ⌜ length (now area) ≡ areaLength room ⌝ }
+    ensures { λ r. ⌜ r ≡ deviceIn (view room (now (area .entry))) c ⌝ }
+{
+    if c == 0 {
+        return 0;
+    }
+    if c <= DEVICE_BYTES {
+        area[DEVICES_FROM - 1 + c]
+    } else {
+        0
+    }
+}
+
+// The partition of object n.
+pub fn object(area: &[u8], room: usize, n: usize) -> u8
+    requires { ⌜ length (now area) ≡ areaLength room ⌝ }
+    ensures { λ r. ⌜ r ≡ objectIn (view room (now (area .entry))) n ⌝ }
+{
+    if n == 0 {
+        return 0;
+    }
+    if n <= room {
+        area[RECORDS_FROM - RECORD_BYTES + RECORD_BYTES * n]
+    } else {
+        0
+    }
+}
+
+// The value number that object n holds.
+pub fn value(area: &[u8], room: usize, n: usize) -> u8
+    requires { ⌜ length (now area) ≡ areaLength room ⌝ }
+    ensures { λ r. ⌜ r ≡ held (view room (now (area .entry))) n ⌝ }
+{
+    if n == 0 {
+        return 0;
+    }
+    if n <= room {
+        area[RECORDS_FROM - CONTENT_BYTES + RECORD_BYTES * n]
+    } else {
+        0
+    }
+}
+
+// The contents of object n.
+pub fn content(area: &[u8], room: usize, n: usize) -> [u8; CONTENT_BYTES]
+    requires { ⌜ length (now area) ≡ areaLength room ⌝ }
+    ensures { λ r. ⌜ r ≡ contentOf (view room (now (area .entry))) n ⌝ }
+{
+    if n == 0 {
+        return [0u8; CONTENT_BYTES];
+    }
+    if n <= room {
+        load(area, RECORDS_FROM - CONTENT_BYTES + RECORD_BYTES * n)
+    } else {
+        [0u8; CONTENT_BYTES]
+    }
+}
