@@ -1,0 +1,144 @@
+// What follows the code of an operation, for each family of codes; and a code's family and actor.
+ghost use mathlib.Core.Path.{_≡_};
+ghost use Rattle.model.specs.Operation.{familyOf, actorOf};
+ghost use Rattle.model.specs.Operation.{writing, copying, partitioning, activating, listing, deactivating, afterCode};
+use crate::fields::count_at;
+use crate::fields::number_at;
+use crate::items::go_on;
+use crate::items::read_items;
+use crate::items::read_objects;
+use crate::items::read_pairs;
+use crate::items::stop;
+use crate::items::with_head;
+use model::Actor;
+use model::Family;
+use model::Num;
+use model::Parse;
+
+// What a code does. (Question 10 lets no code 0 by.)
+pub fn family_of(code: usize) -> Family
+    ensures { λ r. ⌜ r ≡ familyOf code ⌝ }
+{
+    match code {
+        0..=2 => Family::Write,
+        3..=4 => Family::Copy,
+        5 => Family::Create,
+        6 => Family::Destroy,
+        7..=9 => Family::Activate,
+        _ => Family::Deactivate,
+    }
+}
+
+// To whom a code does it, or by whom.
+pub fn actor_of(code: usize) -> Actor
+    ensures { λ r. ⌜ r ≡ actorOf code ⌝ }
+{
+    match code {
+        1 | 3 | 7 | 10 => Actor::Driver,
+        2 | 4 | 8 | 11 => Actor::Device,
+        _ => Actor::External,
+    }
+}
+
+// Codes 1 and 2, a write: driver or device, count, items.
+fn read_write(s: &[u8], code: usize, at: usize) -> Parse
+    ensures { λ r. ⌜ r ≡ writing code (now (s .entry)) at ⌝ }
+{
+    let f = number_at(s, at);
+    let Num::Got(subject, a) = f else {
+        return stop();
+    };
+    let g = count_at(s, a);
+    let Num::Got(n, b) = g else {
+        return stop();
+    };
+    let op = with_head(code, subject, 0, n);
+    read_items(s, n, b, op)
+}
+
+// Codes 3 and 4, a read: driver or device, count, pairs.
+fn read_copy(s: &[u8], code: usize, at: usize) -> Parse
+    ensures { λ r. ⌜ r ≡ copying code (now (s .entry)) at ⌝ }
+{
+    let f = number_at(s, at);
+    let Num::Got(subject, a) = f else {
+        return stop();
+    };
+    let g = count_at(s, a);
+    let Num::Got(n, b) = g else {
+        return stop();
+    };
+    let op = with_head(code, subject, 0, n);
+    read_pairs(s, n, b, op)
+}
+
+// Codes 5 and 6: the partition to create or destroy.
+fn read_partition(s: &[u8], code: usize, at: usize) -> Parse
+    ensures { λ r. ⌜ r ≡ partitioning code (now (s .entry)) at ⌝ }
+{
+    let f = number_at(s, at);
+    let Num::Got(p, next) = f else {
+        return stop();
+    };
+    let op = with_head(code, 0, p, 0);
+    go_on(next, op)
+}
+
+// Codes 7 and 8, activation: driver or device, partition.
+fn read_activation(s: &[u8], code: usize, at: usize) -> Parse
+    ensures { λ r. ⌜ r ≡ activating code (now (s .entry)) at ⌝ }
+{
+    let f = number_at(s, at);
+    let Num::Got(subject, a) = f else {
+        return stop();
+    };
+    let g = number_at(s, a);
+    let Num::Got(p, next) = g else {
+        return stop();
+    };
+    let op = with_head(code, subject, p, 0);
+    go_on(next, op)
+}
+
+// Codes 9 and 12, external objects: partition, count, objects.
+fn read_list(s: &[u8], code: usize, at: usize) -> Parse
+    ensures { λ r. ⌜ r ≡ listing code (now (s .entry)) at ⌝ }
+{
+    let f = number_at(s, at);
+    let Num::Got(p, a) = f else {
+        return stop();
+    };
+    let g = count_at(s, a);
+    let Num::Got(n, b) = g else {
+        return stop();
+    };
+    let op = with_head(code, 0, p, n);
+    read_objects(s, n, b, op)
+}
+
+// Codes 10 and 11, deactivation: driver or device.
+fn read_deactivation(s: &[u8], code: usize, at: usize) -> Parse
+    ensures { λ r. ⌜ r ≡ deactivating code (now (s .entry)) at ⌝ }
+{
+    let f = number_at(s, at);
+    let Num::Got(subject, next) = f else {
+        return stop();
+    };
+    let op = with_head(code, subject, 0, 0);
+    go_on(next, op)
+}
+
+// What follows the code; an unknown one is refused.
+pub fn arguments(s: &[u8], code: usize, at: usize) -> Parse
+    ensures { λ r. ⌜ r ≡ afterCode (now (s .entry)) code at ⌝ }
+{
+    match code {
+        1..=2 => read_write(s, code, at),
+        3..=4 => read_copy(s, code, at),
+        5..=6 => read_partition(s, code, at),
+        7..=8 => read_activation(s, code, at),
+        9 | 12 => read_list(s, code, at),
+        10..=11 => read_deactivation(s, code, at),
+        _ => stop(),
+    }
+}
