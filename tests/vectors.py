@@ -1,81 +1,25 @@
 #!/usr/bin/env python3
-"""Stored cases of the program `vectors`, with the answers that document 01 gives them.
+"""Stored cases of the program `vectors`, with what document 01 says of them.
 
     tests/vectors.py            write crates/vectors/stdin, stdout and cases.txt
     tests/vectors.py --check    fail if what is stored differs
 
-A named case states its answer here; a second reading of document 01 (`load` below), which shares nothing with the
-crates, must agree with it, and gives the answers of the generated cases.
+A named case states its answer here, and the reading of document 01 in tests/papers.py must agree with it; that reading
+also gives the checksums and the answers of the generated cases. A case is a byte for what is called, its length in two
+bytes, lower byte first, and its bytes; its row is its place from 1, the answer, and a checksum of what the call left
+(0 where it leaves nothing).
 """
 import pathlib
 import random
 import sys
 
+from papers import (AREA, CONTENT, DEVICES_FROM, DRIVERS_FROM, MOST_DEVICES, MOST_DRIVERS, MOST_ENTRIES, MOST_ITEMS,
+                    MOST_OBJECTS, MOST_VALUES, Config, decode, formed, fresh, load, record_at)
+
 HOME = pathlib.Path(__file__).resolve().parent.parent / "crates" / "vectors"
-LOAD = 1
-MOST_DRIVERS, MOST_DEVICES, MOST_OBJECTS, MOST_VALUES, MOST_ENTRIES = 16, 16, 96, 47, 6
-
-
-class Refused(Exception):
-    """A question answered with no."""
-
-
-class Reader:
-    """The row of numbers: questions 1, 2 and 3."""
-
-    def __init__(self, data):
-        self.data, self.at = data, 0
-
-    def field(self, low, high):
-        end = self.at
-        while end < len(self.data) and self.data[end] >= 128:
-            end += 1
-        if end == len(self.data):
-            raise Refused(1)
-        digits = self.data[self.at:end + 1]
-        value = sum((b % 128) << (7 * i) for i, b in enumerate(digits))
-        if len(digits) > 3 or (len(digits) > 1 and digits[-1] == 0) or value > 65535:
-            raise Refused(2)
-        if not low <= value <= high:
-            raise Refused(3)
-        self.at = end + 1
-        return value
-
-
-def load(data):
-    """The answer of a configuration file."""
-    try:
-        r = Reader(data)
-        r.field(1, 1)
-        drivers, devices = r.field(0, MOST_DRIVERS), r.field(0, MOST_DEVICES)
-        objects, values = r.field(0, MOST_OBJECTS), r.field(0, MOST_VALUES)
-        table = {}
-        for n in range(1, objects + 1):
-            kind, owner_class = r.field(1, 4), r.field(0, 2)
-            last = {0: 0, 1: drivers, 2: devices}[owner_class]
-            table[n] = (kind, owner_class, r.field(min(owner_class, 1), last))
-        hardcoded = {c: r.field(0, values) for c in range(1, devices + 1)}
-        entries = {0: []}
-        for v in range(1, values + 1):
-            entries[v] = []
-            for _ in range(r.field(0, MOST_ENTRIES)):
-                n, mode = r.field(1, objects), r.field(1, 3)
-                entries[v].append((n, mode, r.field(0, values if table[n][0] == 1 and mode > 1 else 0)))
-        if r.at != len(data):
-            raise Refused(4)
-        for c in hardcoded:
-            if list(table.values()).count((4, 2, c)) != 1:
-                raise Refused(5)
-        if any(kind == 4 and owner_class != 2 for kind, owner_class, _ in table.values()):
-            raise Refused(5)
-        for c, v in hardcoded.items():
-            for n, mode, _ in entries[v]:
-                kind, owner_class, owner = table[n]
-                if (owner_class, owner) != (2, c) or kind == 4 or (kind == 1 and mode != 1):
-                    raise Refused(6)
-        return 0
-    except Refused as q:
-        return q.args[0]
+LOAD, FRESH, FORMED, OPERATION, FRESH_SHORT, FRESH_LONG = 1, 2, 3, 4, 5, 6
+# What an area holds before a fresh state is made in it.
+OLD_BYTE = 0xAA
 
 
 def number(n):
@@ -88,6 +32,18 @@ def number(n):
 
 def row(numbers):
     return b"".join(number(n) for n in numbers)
+
+
+def two(n):
+    """A number in two bytes, lower byte first."""
+    return bytes([n % 256, n // 256])
+
+
+def checksum(numbers):
+    s = 0
+    for x in numbers:
+        s = (s * 31 + x) % 65521
+    return s
 
 
 # Document 01's file L, by groups.
@@ -119,7 +75,7 @@ def full_size():
     return row(out)
 
 
-def named():
+def named_files():
     yield "document 01's file L", row(L), 0
     yield "no driver, device, object or value", row([1, 0, 0, 0, 0]), 0
     yield "every count at its limit", full_size(), 0
@@ -182,8 +138,8 @@ def named():
     yield "both 4 and 5: 4 is asked first", with_numbers((17, 4)) + b"\0", 4
 
 
-def generated(rnd):
-    """Small lines, some of them spoilt in one number or one byte."""
+def generated_files(rnd):
+    """Small configurations, some of them spoilt in one number or one byte."""
     for i in range(200):
         d, v, n, k = rnd.randrange(4), rnd.randrange(4), rnd.randrange(9), rnd.randrange(5)
         out, kinds = [1, d, v, n, k], []
@@ -207,30 +163,151 @@ def generated(rnd):
         data = bytearray(row(out))
         if rnd.random() < 0.1:
             data[rnd.randrange(len(data))] = rnd.randrange(256)
-        yield f"generated {i + 1}", bytes(data), load(bytes(data))
+        yield f"generated file {i + 1}", bytes(data), load(bytes(data))
+
+
+def named_fresh():
+    for length in (AREA - 1, AREA, AREA + 1):
+        yield f"fresh: an area of {length} bytes", row(L), length, 0 if length == AREA else 7
+    yield "fresh: a refused file comes before the area's length", row(L) + b"\0", AREA - 1, 4
+    yield "fresh: every hardcoded value", row([1, 0, 3, 3, 3, 4, 2, 3, 4, 2, 1, 4, 2, 2, 3, 2, 1, 0, 0, 0]), AREA, 0
+    yield "fresh: every count at its limit", full_size(), AREA, 0
+
+
+# A well formed state of L: partitions 1 and 2 exist and 3 is destroyed; driver 1, device 1 and object 5 are in 1, device 2
+# in 2; object 2 holds value 3 and object 6 some bytes.
+ACTIVE = {1: 1, 2: 1, 3: 2, DRIVERS_FROM: 1, DEVICES_FROM: 1, DEVICES_FROM + 1: 2, record_at(1): 1, record_at(1) + 1: 1,
+          record_at(2): 1, record_at(2) + 1: 3, record_at(3): 2, record_at(3) + 1: 2, record_at(4): 2, record_at(5): 1,
+          record_at(6): 1, record_at(6) + 1: 200, record_at(6) + 16: 7}
+
+
+def named_areas():
+    """Areas of L, each broken in one rule of 'Well formed'; a change is a byte of the state above."""
+    yield "9: the state as it is", {}, 0
+    yield "9: status byte 0 is not 0", {0: 1}, 9
+    yield "9: a status of 3", {9: 3}, 9
+    yield "9: a destroyed partition beside", {9: 2}, 0
+    yield "9: a driver in a partition never used", {DRIVERS_FROM: 5, record_at(6): 5}, 9
+    yield "9: a driver in a destroyed partition", {DRIVERS_FROM: 3, record_at(6): 3}, 9
+    yield "9: a driver in partition 64", {DRIVERS_FROM: 64, record_at(6): 64}, 9
+    yield "9: a driver in partition 255", {DRIVERS_FROM: 255, record_at(6): 255}, 9
+    yield "9: an absent driver's byte", {DRIVERS_FROM + 2: 1}, 9
+    yield "9: the last absent driver's byte", {DRIVERS_FROM + 15: 1}, 9
+    yield "9: a device in a destroyed partition", {DEVICES_FROM: 3, record_at(1): 3, record_at(2): 3}, 9
+    yield "9: an absent device's byte", {DEVICES_FROM + 2: 1}, 9
+    yield "9: an external object in a partition never used", {record_at(5): 4}, 9
+    yield "9: an external object in a destroyed partition", {record_at(5): 3}, 9
+    yield "9: a driver's object elsewhere", {record_at(6): 2}, 9
+    yield "9: a device's object elsewhere", {record_at(2): 2}, 9
+    yield "9: a device's object in none", {record_at(2): 0}, 9
+    yield "9: a value number above K", {record_at(2) + 1: 6}, 9
+    yield "9: a byte behind a value number", {record_at(2) + 2: 1}, 9
+    yield "9: the last byte behind a value number", {record_at(2) + 16: 1}, 9
+    yield "9: a hardcoded descriptor with another value", {record_at(1) + 1: 2}, 9
+    yield "9: a byte behind a hardcoded value", {record_at(1) + 16: 1}, 9
+    yield "9: an absent object in a partition", {record_at(7): 1}, 9
+    yield "9: an absent object's contents", {record_at(7) + 1: 1}, 9
+    yield "9: the last byte of the last record", {AREA - 1: 1}, 9
+    yield "9: any contents of kind 3", {record_at(5) + 9: 255}, 0
+
+
+RAW = bytes(range(1, CONTENT + 1))
+
+
+def named_records():
+    yield "10: an empty record", b"", 10
+    for code in (0, 13, 128):
+        yield f"10: code {code}", row([code, 1, 1, 1, 0, 0]), 10
+    yield "10: code 1 in two bytes", bytes([0x81, 0, 1, 1, 1, 0, 0]), 10
+    full = row([1, 1, MOST_ITEMS]) + b"".join(row([n, 1]) + RAW for n in range(1, 9))
+    yield "10: eight raw items", full, 0
+    yield "10: eight items by value number", row([2, 3, MOST_ITEMS] + [300, 0, 5] * 8), 0
+    yield "10: nine items", row([1, 1, 9] + [2, 0, 3] * 9), 10
+    yield "10: no item", row([1, 1, 0]), 10
+    yield "10: eight pairs", row([3, 1, 8] + [5, 0] * 8), 0
+    yield "10: nine pairs", row([3, 1, 9] + [5, 0] * 9), 10
+    yield "10: eight objects", row([9, 1, 8, 1, 2, 3, 4, 5, 6, 7, 8]), 0
+    yield "10: nine objects", row([12, 1, 9, 1, 2, 3, 4, 5, 6, 7, 8, 9]), 10
+    yield "10: form 2", row([1, 1, 1, 2, 2, 3]), 10
+    yield "10: form 3 with sixteen bytes", row([1, 1, 1, 2, 3]) + RAW, 10
+    yield "10: fifteen raw bytes", row([1, 1, 1, 6, 1]) + RAW[:15], 10
+    yield "10: seventeen raw bytes", row([1, 1, 1, 6, 1]) + RAW + b"\0", 10
+    yield "10: a byte left over", row([5, 1]) + b"\0", 10
+    yield "10: a number of 65,535", row([5, 65535]), 0
+    yield "10: a number of 65,536", row([5, 65536]), 10
+    for code, record in [(c, r) for c, r in SHORT.items()]:
+        yield f"10: code {code}, whole", row(record), 0
+        yield f"10: code {code}, a byte left over", row(record) + b"\0", 10
+    mixed = row([2, 1, 3, 4, 0, 300]) + row([6, 1]) + RAW + row([200, 0, 1])
+    for end in range(len(mixed)):
+        yield f"10: three items, cut after {end} bytes", mixed[:end], 10
+    yield "10: three items, whole", mixed, 0
+    for code, record in SHORT.items():
+        for end in range(1, len(row(record))):
+            yield f"10: code {code}, cut after {end} bytes", row(record)[:end], 10
+
+
+# A short record for each code.
+SHORT = {1: [1, 1, 1, 2, 0, 3], 2: [2, 1, 1, 2, 0, 3], 3: [3, 1, 1, 5, 0], 4: [4, 1, 1, 2, 4], 5: [5, 1], 6: [6, 2],
+         7: [7, 1, 1], 8: [8, 2, 2], 9: [9, 1, 1, 5], 10: [10, 1], 11: [11, 2], 12: [12, 1, 2, 5, 6]}
+
+
+def operation_sum(operation):
+    """The checksum of an operation's fields, in the order of its struct."""
+    code, subject, partition, items = operation
+    filled = items + [(0, 0, 0, bytes(CONTENT))] * (MOST_ITEMS - len(items))
+    columns = [[item[i] for item in filled] for i in range(3)]
+    return checksum([code, subject, partition, len(items)] + sum(columns, []) + list(b"".join(i[3] for i in filled)))
+
+
+def case(label, call, data, stated, answer, left=0):
+    if stated != answer:
+        sys.exit(f"{label}: stated {stated}, read {answer}")
+    return label, bytes([call]) + two(len(data)) + data, answer, left
+
+
+def cases():
+    for label, data, stated in [*named_files(), *generated_files(random.Random(1))]:
+        yield case(label, LOAD, data, stated, load(data))
+    for label, file, length, stated in named_fresh():
+        answer = load(file) or (0 if length == AREA else 7)
+        area = bytes([OLD_BYTE] * length) if answer else bytes(fresh(Config(file)))
+        call = {AREA - 1: FRESH_SHORT, AREA: FRESH, AREA + 1: FRESH_LONG}[length]
+        yield case(label, call, file, stated, answer, checksum(area))
+    for label, changes, stated in named_areas():
+        area = bytearray(AREA)
+        for place, value in {**ACTIVE, **changes}.items():
+            area[place] = value
+        patches = b"".join(two(p) + bytes([b]) for p, b in enumerate(area) if b)
+        yield case(label, FORMED, bytes([len(L)]) + row(L) + patches, stated, 0 if formed(Config(row(L)), area) else 9)
+    for label, record, stated in named_records():
+        operation = decode(record)
+        if operation == 10:
+            yield case(label, OPERATION, record, stated, 10)
+        else:
+            yield case(label, OPERATION, record, stated, 0, operation_sum(operation))
 
 
 def files():
     """The three files, by name."""
     stdin, stdout, rows = bytearray(), [], []
-    for place, (label, data, answer) in enumerate([*named(), *generated(random.Random(1))], 1):
-        if load(data) != answer:
-            sys.exit(f"{label}: stated {answer}, read {load(data)}")
-        stdin += bytes([LOAD, len(data) % 256, len(data) // 256]) + data
-        stdout.append(f"{place} {answer}\n")
+    for place, (label, data, answer, left) in enumerate(cases(), 1):
+        stdin += data
+        stdout.append(f"{place} {answer} {left}\n")
         rows.append(f"{place} {answer} {label}\n")
     return {"stdin": bytes(stdin), "stdout": "".join(stdout).encode(), "cases.txt": "".join(rows).encode()}
 
 
 def main():
     check = sys.argv[1:] == ["--check"]
-    for name, data in files().items():
+    made = files()
+    for name, data in made.items():
         path = HOME / name
         if not check:
             path.write_bytes(data)
         elif not path.exists() or path.read_bytes() != data:
             sys.exit(f"{name} is not what tests/vectors.py makes")
-    print("vectors:", len(files()["stdout"].splitlines()), "cases,", len(files()["stdin"]), "bytes")
+    print("vectors:", len(made["stdout"].splitlines()), "cases,", len(made["stdin"]), "bytes")
 
 
 if __name__ == "__main__":

@@ -1,6 +1,8 @@
 // What a C host calls: numbers and byte areas in, a number out.
 ghost use mathlib.Core.Path.{_≡_};
 ghost use Rattle.model.specs.ConfigFile.{load};
+ghost use Rattle.model.specs.Gate.{makeFresh};
+use model::MOST_OBJECTS;
 
 // Questions 1 to 6 of a configuration file: 0, or the number of the first that is answered with no.
 #[no_mangle]
@@ -9,4 +11,23 @@ pub extern "C" fn gate_load_check(line: &[u8]) -> u32
 {
     let loaded = config::load(line);
     loaded.answer as u32
+}
+
+// A fresh state in the area lent: questions 1 to 6, then 7. A refusal leaves the area as it was.
+#[no_mangle]
+pub extern "C" fn gate_fresh(line: &[u8], state: &mut [u8]) -> u32
+    ensures { λ r. ⌜ r ≡ (makeFresh (now (line .entry)) (now (state .entry))) .0 ⌝ }
+    ensures { λ _. ⌜ now (state .exit) ≡ (makeFresh (now (line .entry)) (now (state .entry))) .1 ⌝ }
+{
+    let loaded = config::load(line);
+    if loaded.answer != 0 {
+        return loaded.answer as u32;
+    }
+    let config = loaded.config;
+    let room = MOST_OBJECTS as usize;
+    if !state::look::right_length(&state[..], room) {
+        return 7;
+    }
+    state::fresh::make_fresh(state, room, config);
+    0
 }
