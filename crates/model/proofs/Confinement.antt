@@ -28,7 +28,7 @@ use Rattle.model.proofs.ClosureLaws.{survey-sound, reads-active}
 -- question 19: no entry in the closure crosses
 abbrev pub Confined : Config → State → Type 0
 Confined config b =
-    (c o v : ℕ) → Reads config b c o v → (e : Entry) → List·Memᴰ e (entries config v)
+    (c o v : ℕ) → Reads config true b c o v → (e : Entry) → List·Memᴰ e (entries config v)
     → (kindOf config (e .object) ≡ 4 → ⊥) × (objectIn b (e .object) ≡ deviceIn b c)
 
 pub confined-sound : (config : Config) (b : State) → confined config b ≡ true → Confined config b
@@ -49,21 +49,22 @@ unfolding entries
 no-entries config v {e} z m = List·Memᴰ·not-nil (subst (λ (x : ℕ). List·Memᴰ e (entries config x)) z m)
 
 -- what holds fewer values and has fewer active devices and descriptors reaches no more
-module _ (config : Config) (b b′ : State) (kept : (o : ℕ) → live config b′ o ≡ true → Collected config b o (held b′ o))
+module _ (config : Config) (b b′ : State)
+    (kept : (o : ℕ) → live config b′ o ≡ true → Collected config true b o (held b′ o))
     (devices : (c : ℕ) → active b′ c ≡ true → active b c ≡ true) where
   mutual
-    pub fewer-pairs : {o v : ℕ} → Collected config b′ o v → Collected config b o v
-    fewer-pairs (start {o = o} l e) = subst (λ (x : ℕ). Collected config b o x) e (kept o l)
-    fewer-pairs (stored e r m h k ep ew) = stored e (fewer-reads r) m h k ep ew
+    pub fewer-pairs : {o v : ℕ} → Collected config true b′ o v → Collected config true b o v
+    fewer-pairs (start {o = o} l e) = subst (λ (x : ℕ). Collected config true b o x) e (kept o l)
+    fewer-pairs (stored on e r m h k ep ew) = stored on e (fewer-reads r) m h k ep ew
 
-    pub fewer-reads : {c o v : ℕ} → Reads config b′ c o v → Reads config b c o v
+    pub fewer-reads : {c o v : ℕ} → Reads config true b′ c o v → Reads config true b c o v
     fewer-reads (own {c = c} h k q) = own (devices c h) k (fewer-pairs q)
     fewer-reads (next e r m h k ep q) = next e (fewer-reads r) m h k ep (fewer-pairs q)
 
 -- what a device can read with the values of this moment is in the closure
 module _ (config : Config) (b : State)
     (hardcoded-live : (c x : ℕ) → active b c ≡ true → hardcodedTo config c x ≡ true → live config b x ≡ true) where
-  pub readable-reads : {c o : ℕ} → Trace.CanRead config b c o → Reads config b c o (held b o)
+  pub readable-reads : {storing : Bool} {c o : ℕ} → Trace.CanRead config b c o → Reads config storing b c o (held b o)
   readable-reads (Trace.own {c = c} {o = o} h k) = own h k (start (hardcoded-live c o h k) refl)
   readable-reads (Trace.next {p = p} e s m h l ep) =
       next e (readable-reads s) m h
@@ -71,11 +72,11 @@ module _ (config : Config) (b : State)
       (and-l (descriptor config p) (not (eqb (objectIn b p) 0)) l)) ep (start l refl)
 
 -- an inactive descriptor has no pair in a confined closure
-pub inactive-none : (config : Config) (b : State) → Confined config b → {o v : ℕ} → Collected config b o v
+pub inactive-none : (config : Config) (b : State) → Confined config b → {o v : ℕ} → Collected config true b o v
     → objectIn b o ≡ 0 → ⊥
 inactive-none config b confines (start {o = o} l e) z =
     not-eqb (objectIn b o) 0 (and-r (descriptor config o) (not (eqb (objectIn b o) 0)) l) z
-inactive-none config b confines (stored {c = c} {o = o} {v = v} {p = p} e r m h k ep ew) z =
+inactive-none config b confines (stored {c = c} {o = o} {v = v} {p = p} on e r m h k ep ew) z =
     not-eqb (deviceIn b c) 0 (reads-active r) (sym (confines c o v r e m .1) ∙ (ap (objectIn b) ep ∙ z))
 
 -- an activation: device c₀ (0 for none) and objects that were inactive come in, with value 0 or hardcoded
@@ -96,10 +97,11 @@ pub record Activated (config : Config) (b b′ : State) (c₀ : ℕ) : Type 0 wh
 
 module _ (config : Config) (b b′ : State) (c₀ : ℕ) (act : Activated config b b′ c₀) (confines : Confined config b) where
   abbrev NewPair : ℕ → ℕ → Type 0
-  NewPair o v = Collected config b o v ⊎ ((v ≡ 0) ⊎ ((hardcodedTo config c₀ o ≡ true) × (v ≡ hardcodedOf config c₀)))
+  NewPair o v =
+      Collected config true b o v ⊎ ((v ≡ 0) ⊎ ((hardcodedTo config c₀ o ≡ true) × (v ≡ hardcodedOf config c₀)))
 
   abbrev NewRead : ℕ → ℕ → ℕ → Type 0
-  NewRead c o v = Reads config b c o v ⊎ ((v ≡ 0) ⊎ ((c ≡ c₀) × (v ≡ hardcodedOf config c₀) × (c₀ ≡ 0 → ⊥)))
+  NewRead c o v = Reads config true b c o v ⊎ ((v ≡ 0) ⊎ ((c ≡ c₀) × (v ≡ hardcodedOf config c₀) × (c₀ ≡ 0 → ⊥)))
 
   moved-entry : {v : ℕ} {e : Entry} → v ≡ hardcodedOf config c₀ → List·Memᴰ e (entries config v)
       → List·Memᴰ e (entries config (hardcodedOf config c₀))
@@ -119,7 +121,7 @@ module _ (config : Config) (b b′ : State) (c₀ : ℕ) (act : Activated config
 
   stored-new : {c o v p w : ℕ} (e : Entry) → NewRead c o v → List·Memᴰ e (entries config v) → writes e ≡ true
       → kindOf config (e .object) ≡ 1 → e .object ≡ p → e .value ≡ w → NewPair p w
-  stored-new e (inl r) m h k ep ew = inl (stored e r m h k ep ew)
+  stored-new e (inl r) m h k ep ew = inl (stored refl e r m h k ep ew)
   stored-new {v = v} e (inr (inl z)) m h k ep ew = absurd (no-entries config v z m)
   stored-new e (inr (inr (ec, ev, some))) m h k ep ew = absurd (act .limited some e (moved-entry ev m) .1 k h)
 
@@ -150,18 +152,18 @@ module _ (config : Config) (b b′ : State) (c₀ : ℕ) (act : Activated config
       absurd (act .limited some e (moved-entry ev m) .0 (ap (kindOf config) ep ∙ kind4 c₀ p w₀))
 
   mutual
-    new-pair : {o v : ℕ} → Collected config b′ o v → NewPair o v
+    new-pair : {o v : ℕ} → Collected config true b′ o v → NewPair o v
     new-pair (start {o = o} l e) = began e (act .begins o l)
-    new-pair (stored e r m h k ep ew) = stored-new e (new-read r) m h k ep ew
+    new-pair (stored on e r m h k ep ew) = stored-new e (new-read r) m h k ep ew
 
-    new-read : {c o v : ℕ} → Reads config b′ c o v → NewRead c o v
+    new-read : {c o v : ℕ} → Reads config true b′ c o v → NewRead c o v
     new-read (own h w q) = own-new h w (new-pair q)
     new-read (next e r m h k ep q) = next-new e (new-read r) m h k ep (new-pair q)
 
   pub activation-confined : Confined config b′
   activation-confined c o v r e m = go (new-read r)
     where
-      device-same : Reads config b c o v → deviceIn b′ c ≡ deviceIn b c
+      device-same : Reads config true b c o v → deviceIn b′ c ≡ deviceIn b c
       device-same rb = pick (act .others c (reads-active r))
         where
           pick : (deviceIn b′ c ≡ deviceIn b c) ⊎ (c ≡ c₀) → deviceIn b′ c ≡ deviceIn b c

@@ -72,7 +72,7 @@ module _ (config : Config) (b : State) (op : Operation) (f : Family) (a : Actor)
 -- a survey says no exactly where the rules give an entry that does not pass
 survey-no : (config : Config) (b : State) (ok : ℕ → Entry → Bool)
     → (survey config b ok ≡ false)
-    ↔ ((c o v : ℕ) × (e : Entry) × Reads config b c o v × List·Memᴰ e (entries config v) × (ok c e ≡ false))
+    ↔ ((c o v : ℕ) × (e : Entry) × Reads config true b c o v × List·Memᴰ e (entries config v) × (ok c e ≡ false))
 survey-no config b ok = (
   survey-complete config b ok,
   λ q. let (c, o, v, e, r, m, k) =
@@ -91,7 +91,8 @@ not-false false h = sym h
 -- some device has an entry in the closure that crosses
 abbrev pub Crossing : Config → State → Type 0
 Crossing config b =
-    (c o v : ℕ) × (e : Entry) × Reads config b c o v × List·Memᴰ e (entries config v) × (crosses config b c e ≡ true)
+    (c o v : ℕ) × (e : Entry) × Reads config true b c o v × List·Memᴰ e (entries config v)
+    × (crosses config b c e ≡ true)
 
 confined-no : (config : Config) (b : State) → (confined config b ≡ false) ↔ Crossing config b
 confined-no config b =
@@ -103,7 +104,7 @@ confined-no config b =
 -- some active device, in code 11 another one, has an entry in the closure that names an object concerned
 abbrev pub Naming : Config → State → Operation → Actor → Type 0
 Naming config b op a =
-    (c o v : ℕ) × (e : Entry) × Reads config b c o v × List·Memᴰ e (entries config v)
+    (c o v : ℕ) × (e : Entry) × Reads config true b c o v × List·Memᴰ e (entries config v)
     × (c ≡ itself op a → ⊥) × (concerned config op a (e .object) ≡ true)
 
 unnamed-no : (config : Config) (b : State) (op : Operation) (a : Actor)

@@ -25,3 +25,4 @@ pub mod FormedStatus
 pub mod FormedMoves
 pub mod Reached
 pub mod Demand2
+pub mod OperationRange

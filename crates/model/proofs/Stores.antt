@@ -22,7 +22,7 @@ use Rattle.model.specs.Separation.{Hardcoded}
 use Rattle.model.specs.declared.Config.{Config}
 use Rattle.model.specs.declared.Operation.{Operation}
 use Rattle.model.proofs.Lists.{and-l, and-r, or-true, not-eqb, from1to-low, below-at, nth-put-cases}
-use Rattle.model.proofs.ClosureLaws.{described-sound}
+use Rattle.model.proofs.ClosureLaws.{described-sound, today-reads}
 use Rattle.model.proofs.Confinement.{Confined, confined-sound, fewer-reads}
 use Rattle.model.proofs.StateLaws.{Shape, apply-shape}
 use Rattle.model.proofs.Columns.{or-else}
@@ -68,14 +68,14 @@ live-low config b o l = from1to-low o (config .counts .objects) (search (and-l, 
 
 -- a write that is described now puts a value that is in the closure
 pub write-reached : (config : Config) (b : State) (c n v : ℕ) → described config b c (writeEntry config n v) ≡ true
-    → kindOf config n ≡ 1 → Collected config b n v
+    → kindOf config n ≡ 1 → Collected config true b n v
 write-reached config b c n v h k =
     let (o, w, e, r, m, ok) = described-sound config b c (writeEntry config n v) h in
     let en : e .object ≡ n = eqb-true (e .object) n (search (and-l, and-r)) in
     let ev : e .value ≡ v =
     eqb-true (e .value) v (or-else (isKind config 1 n) (eqb (e .value) v) (search (and-l, and-r))
     (eq-eqb (kindOf config n) 1 k)) in
-    stored e r m (search (and-l, and-r)) (ap (kindOf config) en ∙ k) en ev
+    stored refl e (today-reads r) m (search (and-l, and-r)) (ap (kindOf config) en ∙ k) en ev
 
 pub not-zero : (x n : ℕ) (t : Bool) → x ≡ n → 1 ≤ n → eqb x 0 || t ≡ true → t ≡ true
 not-zero x n t e low h = go (or-true h)
@@ -86,7 +86,7 @@ not-zero x n t e low h = go (or-true h)
 
 -- a state with the same partitions whose descriptors hold what was in the closure is confined
 pub same-confined : (config : Config) (b : State) → Kept config b → (b′ : State) → b .object ≡ b′ .object
-    → b .device ≡ b′ .device → ((o : ℕ) → live config b o ≡ true → Collected config b o (held b′ o))
+    → b .device ≡ b′ .device → ((o : ℕ) → live config b o ≡ true → Collected config true b o (held b′ o))
     → Confined config b′
 same-confined config b kept b′ eo ec g c o v r e m =
     let q = kept .confines c o v
@@ -95,7 +95,7 @@ same-confined config b kept b′ eo ec g c o v r e m =
     (λ x l. subst (λ (s : List ℕ). not (eqb (nth s x 0) 0) ≡ true) (sym ec) l) r) e m in
     (q .0, ap (λ (s : List ℕ). nth s (e .object) 0) (sym eo) ∙ (q .1 ∙ ap (λ (s : List ℕ). nth s c 0) ec))
 
-module _ (config : Config) (op : Operation) (b : State) (kept : Kept config b) where
+module _ (config : Config) (op : Operation) where
   -- no item of a write, and no destination of a read, is of kind 4
   pub write-kind : q13 config op Write ≡ true → (i n : ℕ) → i < op .count → objectAt op i ≡ n → kindOf config n ≡ 4 → ⊥
   unfolding q13
@@ -132,48 +132,49 @@ module _ (config : Config) (op : Operation) (b : State) (kept : Kept config b) w
       go true false h k = absurd (false≢true h)
       go false t h k = absurd (false≢true k)
 
+module _ (config : Config) (op : Operation) (b : State) (kept : Kept config b) where
   write-hardcoded : q13 config op Write ≡ true → (a : Actor) → Hardcoded config (apply config op Write a b)
   unfolding apply
   write-hardcoded h a n x k =
       stores-hold (λ (c : List ℕ). c ≡ valueBytes (hardcodedOf config (ownerOf config n))) (objectAt op) (itemBytes op)
       (op .count) (b .content) n cleared
-      (kept .hardcoded n x k) (λ i l e. absurd (write-kind h i n l e k))
+      (kept .hardcoded n x k) (λ i l e. absurd (write-kind config op h i n l e k))
 
   copy-hardcoded : q13 config op Copy ≡ true → (a : Actor) → Hardcoded config (apply config op Copy a b)
   unfolding apply
   copy-hardcoded h a n x k =
       stores-hold (λ (c : List ℕ). c ≡ valueBytes (hardcodedOf config (ownerOf config n))) (secondAt op)
       (sourceBytes op b) (op .count) (b .content) n cleared
-      (kept .hardcoded n x k) (λ i l e. absurd (copy-kind h i n l e (from1to-low n (config .counts .objects) x) k))
+      (kept .hardcoded n x k) (λ i l e. absurd (copy-kind config op h i n l e (from1to-low n (config .counts .objects) x) k))
 
   -- what a device writes was in the closure before
   device-write : q13 config op Write ≡ true → q18 config b op Write Device ≡ true → (o : ℕ) → live config b o ≡ true
-      → Collected config b o (held (apply config op Write Device b) o)
+      → Collected config true b o (held (apply config op Write Device b) o)
   unfolding q18 apply
   device-write h t o l =
-      stores-hold (λ (c : List ℕ). Collected config b o (getD c 0 0)) (objectAt op) (itemBytes op) (op .count)
+      stores-hold (λ (c : List ℕ). Collected config true b o (getD c 0 0)) (objectAt op) (itemBytes op) (op .count)
       (b .content) o cleared (start l refl)
       (λ i m e.
-      let k : kindOf config o ≡ 1 = kind-1 config b o l (write-kind h i o m e) in
-      let r : Collected config b (objectAt op i) (secondAt op i) =
+      let k : kindOf config o ≡ 1 = kind-1 config b o l (write-kind config op h i o m e) in
+      let r : Collected config true b (objectAt op i) (secondAt op i) =
       write-reached config b (op .subject) (objectAt op i) (secondAt op i)
       (below-at (op .count) (transfer config b op Write) t i m) (ap (kindOf config) e ∙ k) in
-      subst (λ (x : ℕ). Collected config b o x) (sym (ap (λ (c : List ℕ). getD c 0 0) (write-form h i o m e k)))
-      (subst (λ (x : ℕ). Collected config b x (secondAt op i)) e r))
+      subst (λ (x : ℕ). Collected config true b o x) (sym (ap (λ (c : List ℕ). getD c 0 0) (write-form config op h i o m e k)))
+      (subst (λ (x : ℕ). Collected config true b x (secondAt op i)) e r))
 
   device-copy : q13 config op Copy ≡ true → q18 config b op Copy Device ≡ true → (o : ℕ) → live config b o ≡ true
-      → Collected config b o (held (apply config op Copy Device b) o)
+      → Collected config true b o (held (apply config op Copy Device b) o)
   unfolding q18 apply
   device-copy h t o l =
-      stores-hold (λ (c : List ℕ). Collected config b o (getD c 0 0)) (secondAt op) (sourceBytes op b) (op .count)
+      stores-hold (λ (c : List ℕ). Collected config true b o (getD c 0 0)) (secondAt op) (sourceBytes op b) (op .count)
       (b .content) o cleared (start l refl)
       (λ i m e.
       let low = live-low config b o l in
-      let k : kindOf config o ≡ 1 = kind-1 config b o l (copy-kind h i o m e low) in
+      let k : kindOf config o ≡ 1 = kind-1 config b o l (copy-kind config op h i o m e low) in
       let d : described config b (op .subject) (writeEntry config (secondAt op i) (held b (objectAt op i))) ≡ true =
       not-zero (secondAt op i) o _ e low (and-r (described config b (op .subject) (readEntry (objectAt op i))) _
       (below-at (op .count) (transfer config b op Copy) t i m)) in
-      subst (λ (x : ℕ). Collected config b x (held b (objectAt op i))) e
+      subst (λ (x : ℕ). Collected config true b x (held b (objectAt op i))) e
       (write-reached config b (op .subject) (secondAt op i) (held b (objectAt op i)) d (ap (kindOf config) e ∙ k)))
 
   write-confined : (a : Actor) → Passed config b op Write a → Confined config (apply config op Write a b)
