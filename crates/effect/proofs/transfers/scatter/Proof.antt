@@ -1,0 +1,64 @@
+-- `effect::transfers::scatter` meets its contract: after i turns the first i destinations are stored. Assumes nothing.
+use Prim.Native.Nat.{_-_, _≤_}
+use mathlib.Core.Path.{_≡_, refl}
+use lib.ListN.{length}
+use borrow.Author.Needs.{needs}
+use Rattle.model.specs.State.{view}
+use Rattle.effect.specs.Transfers.{restored}
+use Rattle.effect.proofs.Carrying.{scatter-none, scatter-on, scatter-end}
+use Rattle.effect.proofs.transfers.scatter.Statement.{statement}
+use Rattle.effect.proofs.transfers.scatter.Tie as tie
+
+abbrev Inv-loop : tie.InvT-loop
+Inv-loop area₀ room seconds count answer i₀ area i = (i ≤ count) × (length area ≡ length area₀)
+    × (view room area ≡ restored seconds answer i (view room area₀))
+
+abbrev μ-loop : tie.MeasureT-loop
+μ-loop area₀ room seconds count answer i₀ area i = count - i
+
+loop-holds : tie.Need-loop-holds Inv-loop μ-loop
+loop-holds c = (search needs, refl, search scatter-none)
+
+number-at-requires : tie.Need-number-at-requires Inv-loop μ-loop
+number-at-requires c κs = search needs
+
+mul-load : tie.Need-mul-load Inv-loop μ-loop
+mul-load c = search needs
+
+load-requires : tie.Need-load-requires Inv-loop μ-loop
+load-requires c κs = search needs
+
+store-requires : tie.Need-store-requires Inv-loop μ-loop
+store-requires c κs = search needs
+
+add-i : tie.Need-add-i Inv-loop μ-loop
+add-i c = search needs
+
+loop-less : tie.Need-loop-less Inv-loop μ-loop
+loop-less c = search needs
+
+loop-again : tie.Need-loop-again Inv-loop μ-loop
+loop-again c = (search needs, search needs, search scatter-on)
+
+same-length : tie.Need-same-length Inv-loop μ-loop
+same-length c = search needs
+
+returns : tie.Need-returns Inv-loop μ-loop
+returns c = search scatter-end
+
+pub scatter-spec : {M : Type 1} → statement M
+scatter-spec =
+    tie.close
+    (tie.spec
+    Inv-loop
+    μ-loop
+    loop-holds
+    number-at-requires
+    mul-load
+    load-requires
+    store-requires
+    add-i
+    loop-less
+    loop-again
+    same-length
+    returns)

@@ -1,0 +1,3 @@
+pub mod Moves
+pub mod Transfers
+pub mod Fit
