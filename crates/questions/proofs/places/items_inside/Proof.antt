@@ -1,0 +1,89 @@
+-- `questions::places::items_inside` meets its contract: the items so far are inside. Assumes nothing.
+use mathlib.Core.Path.{_≡_}
+use mathlib.Core.Bool.{true}
+use Prim.Native.Nat.{_-_, _≤_}
+use borrow.Author.Needs.{needs}
+use Rattle.model.specs.State.{view}
+use Rattle.questions.specs.Items.{upTo, itemInside}
+use Rattle.questions.proofs.Laws
+use Rattle.questions.proofs.places.items_inside.Statement.{statement}
+use Rattle.questions.proofs.places.items_inside.Tie as tie
+
+abbrev Inv-loop : tie.InvT-loop
+Inv-loop area room f p op n i₀ i = (i ≤ n) × (upTo i (itemInside (view room area) op f p) ≡ true)
+
+abbrev μ-loop : tie.MeasureT-loop
+μ-loop area room f p op n i₀ i = n - i
+
+loop-holds : tie.Need-loop-holds Inv-loop μ-loop
+loop-holds c = (search needs, Laws.up-start _)
+
+number-of-requires : tie.Need-number-of-requires Inv-loop μ-loop
+number-of-requires c κs = search needs
+
+number-of-requires-2 : tie.Need-number-of-requires-2 Inv-loop μ-loop
+number-of-requires-2 c κs = search needs
+
+object-in-requires : tie.Need-object-in-requires Inv-loop μ-loop
+object-in-requires c κs = search needs
+
+cast-mine : tie.Need-cast-mine Inv-loop μ-loop
+cast-mine c = search needs
+
+object-in-requires-2 : tie.Need-object-in-requires-2 Inv-loop μ-loop
+object-in-requires-2 c κs = search needs
+
+cast-other : tie.Need-cast-other Inv-loop μ-loop
+cast-other c = search needs
+
+item-inside-requires : tie.Need-item-inside-requires Inv-loop μ-loop
+item-inside-requires c κs = search needs
+
+returns : tie.Need-returns Inv-loop μ-loop
+returns c =
+    Laws.up-stop _ _ _
+    (c .before .before .before .before .before .before .before .before .before .before .before .before .loop-test
+    .taken) (Laws.item-inside _ _ _ _ _ _ _ _ _ (c .before .item-inside .ensures)
+    (c .before .before .before .before .before .before .before .before .number-of .ensures)
+    (c .before .before .before .before .number-of2 .ensures) (c .before .before .before .object-in .ensures)
+    (c .before .before .object-in2 .ensures)) (c .if1 .taken)
+
+add-i : tie.Need-add-i Inv-loop μ-loop
+add-i c = search needs
+
+loop-less : tie.Need-loop-less Inv-loop μ-loop
+loop-less c = search needs
+
+loop-again : tie.Need-loop-again Inv-loop μ-loop
+loop-again c = (
+  search needs,
+  Laws.up-go _ _
+      (c .before .before .before .before .before .before .before .before .before .before .before .before .before .loop
+      .inv .1) (Laws.item-inside _ _ _ _ _ _ _ _ _ (c .before .item-inside .ensures)
+      (c .before .before .before .before .before .before .before .before .number-of .ensures)
+      (c .before .before .before .before .number-of2 .ensures) (c .before .before .before .object-in .ensures)
+      (c .before .before .object-in2 .ensures)) (c .if1 .left),
+)
+
+returns-2 : tie.Need-returns-2 Inv-loop μ-loop
+returns-2 c = Laws.up-end _ _ _ (c .before .loop .inv .1) (c .before .loop .inv .0) (c .loop-test .left)
+
+pub items-inside-spec : {M : Type 1} → statement M
+items-inside-spec =
+    tie.close
+    (tie.spec
+    Inv-loop
+    μ-loop
+    loop-holds
+    number-of-requires
+    number-of-requires-2
+    object-in-requires
+    cast-mine
+    object-in-requires-2
+    cast-other
+    item-inside-requires
+    returns
+    add-i
+    loop-less
+    loop-again
+    returns-2)

@@ -1,0 +1,187 @@
+// Questions 11, 12 and 13: what an operation names, by the configuration.
+ghost use mathlib.Core.Path.{_≡_};
+ghost use Rattle.model.specs.Questions.{q11, q12, q13};
+ghost use Rattle.questions.specs.Items.{upTo, actorNamed, partitionNamed, named, itemNamed};
+ghost use Rattle.questions.specs.Items.{changedIn, apart, fits, itemFitting, namesNo};
+use crate::lookups::MOST_PARTITION;
+use crate::lookups::ask;
+use crate::lookups::byte_at;
+use crate::lookups::from_1_to;
+use crate::lookups::number_of;
+use model::Actor;
+use model::Config;
+use model::Counts;
+use model::Family;
+use model::Operation;
+
+// The driver or device s exists, where the code names one.
+fn actor_named(counts: Counts, a: Actor, s: usize) -> bool
+    ensures { λ r. ⌜ r ≡ actorNamed counts a s ⌝ }
+{
+    match a {
+        Actor::Driver => from_1_to(s, counts.drivers),
+        Actor::Device => from_1_to(s, counts.devices),
+        Actor::External => true,
+    }
+}
+
+// Partition p is 1 to 63, where the code names one.
+fn partition_named(f: Family, a: Actor, p: usize) -> bool
+    ensures { λ r. ⌜ r ≡ partitionNamed f a p ⌝ }
+{
+    match f {
+        Family::Write => true,
+        Family::Copy => true,
+        Family::Create => from_1_to(p, MOST_PARTITION),
+        Family::Destroy => from_1_to(p, MOST_PARTITION),
+        Family::Activate => from_1_to(p, MOST_PARTITION),
+        Family::Deactivate => match a {
+            Actor::Driver => true,
+            Actor::Device => true,
+            Actor::External => from_1_to(p, MOST_PARTITION),
+        },
+    }
+}
+
+// An item with object o, second number v and form names what exists.
+fn item_named(counts: Counts, f: Family, o: usize, v: usize, form: usize) -> bool
+    ensures { λ r. ⌜ r ≡ named counts f o v form ⌝ }
+{
+    let object = from_1_to(o, counts.objects);
+    match f {
+        Family::Write => object & ((form == 1) | (v <= (counts.values as usize))),
+        Family::Copy => object & ((v == 0) | from_1_to(v, counts.objects)),
+        Family::Create => true,
+        Family::Destroy => true,
+        Family::Activate => object,
+        Family::Deactivate => object,
+    }
+}
+
+// Every item does.
+fn items_named(counts: Counts, op: Operation, f: Family) -> bool
+    ensures { λ r. ⌜ r ≡ upTo (op .count) (itemNamed counts op f) ⌝ }
+{
+    let n = op.count;
+    let mut i = 0;
+    while i < n {
+        let o = number_of(&op.objects, i);
+        let v = number_of(&op.seconds, i);
+        let form = number_of(&op.forms, i);
+        if !item_named(counts, f, o, v, form) {
+            return false;
+        }
+        i += 1;
+    }
+    true
+}
+
+// 11: every driver, device, object and value named exists, and every partition is 1 to 63.
+pub fn exist(config: Config, op: Operation, f: Family, a: Actor) -> bool
+    ensures { λ r. ⌜ r ≡ q11 config op f a ⌝ }
+{
+    let counts = config.counts;
+    let actor = actor_named(counts, a, op.subject);
+    let partition = partition_named(f, a, op.partition);
+    let items = items_named(counts, op, f);
+    actor & partition & items
+}
+
+// The object that item i changes or moves.
+fn changed_at<'a>(objects: &'a [u32], seconds: &'a [u32], f: Family, i: usize) -> usize
+    ensures { λ r. ⌜ r ≡ changedIn (now (objects .entry)) (now (seconds .entry)) f i ⌝ }
+{
+    match f {
+        Family::Write => number_of(objects, i),
+        Family::Copy => number_of(seconds, i),
+        Family::Create => 0,
+        Family::Destroy => 0,
+        Family::Activate => number_of(objects, i),
+        Family::Deactivate => number_of(objects, i),
+    }
+}
+
+// Item i changes no object that an item before it changes; destination 0 may be repeated.
+fn item_apart<'a>(objects: &'a [u32], seconds: &'a [u32], f: Family, i: usize) -> bool
+    ensures { λ r. ⌜ r ≡ apart (now (objects .entry)) (now (seconds .entry)) f i ⌝ }
+{
+    let x = changed_at(objects, seconds, f, i);
+    let mut j = 0;
+    while j < i {
+        let y = changed_at(objects, seconds, f, j);
+        let differ = (x == 0) | (y != x);
+        if !differ {
+            return false;
+        }
+        j += 1;
+    }
+    true
+}
+
+// 12: no target, destination or listed object is named twice.
+pub fn are_apart(op: Operation, f: Family) -> bool
+    ensures { λ r. ⌜ r ≡ q12 op f ⌝ }
+{
+    let n = op.count;
+    let mut i = 0;
+    while i < n {
+        if !item_apart(&op.objects, &op.seconds, f, i) {
+            return false;
+        }
+        i += 1;
+    }
+    true
+}
+
+// The kinds of an item fit: of its object, with the owner's class, and of its second number, a destination or 0.
+fn item_fits(f: Family, kind: u8, class: u8, v: usize, other: u8, form: usize) -> bool
+    ensures { λ r. ⌜ r ≡ fits f kind class v other form ⌝ }
+{
+    match f {
+        Family::Write => (kind != 4) & ((kind == 1) == (form == 0)),
+        Family::Copy => (kind != 4) & ((v == 0) | ((other != 4) & ((kind == 1) == (other == 1)))),
+        Family::Create => true,
+        Family::Destroy => true,
+        Family::Activate => (kind != 4) & (class == 0),
+        Family::Deactivate => (kind != 4) & (class == 0),
+    }
+}
+
+// Those of every item.
+fn items_fit<'a>(kind: &'a [u8], class: &'a [u8], op: Operation, f: Family) -> bool
+    ensures { λ r. ⌜ r ≡ upTo (op .count) (itemFitting (now (kind .entry)) (now (class .entry)) op f) ⌝ }
+{
+    let n = op.count;
+    let mut i = 0;
+    while i < n {
+        let o = number_of(&op.objects, i);
+        let v = number_of(&op.seconds, i);
+        let form = number_of(&op.forms, i);
+        let k = byte_at(kind, o);
+        let c = byte_at(class, o);
+        let other = byte_at(kind, v);
+        if !item_fits(f, k, c, v, other, form) {
+            return false;
+        }
+        i += 1;
+    }
+    true
+}
+
+// 13: kinds fit.
+pub fn kinds_fit(config: Config, op: Operation, f: Family) -> bool
+    ensures { λ r. ⌜ r ≡ q13 config op f ⌝ }
+{
+    let t = config.objects;
+    items_fit(&t.kind, &t.class, op, f)
+}
+
+// The number of the first of these questions that is answered with no, or 0.
+pub fn judge_names(config: Config, op: Operation, f: Family, a: Actor) -> u8
+    ensures { λ r. ⌜ r ≡ namesNo config op f a 0 ⌝ }
+{
+    let q11 = exist(config, op, f, a);
+    let q12 = are_apart(op, f);
+    let q13 = kinds_fit(config, op, f);
+    ask(11, q11, ask(12, q12, ask(13, q13, 0)))
+}
