@@ -1,4 +1,4 @@
--- What the arm of each code leaves.
+-- What the arm of each code leaves, and that the questions give what `carry_out` requires.
 use Prim.Native.Nat.{ℕ, suc, _≤_, _<_}
 use mathlib.Core.Path.{_≡_, refl, sym, ap, _∙_, subst}
 use mathlib.Core.List.{List}
@@ -42,9 +42,8 @@ unfolding q11 Small
 q11-small config op a v h i l e =
     let k : below (op .count) (itemExists config op Write) ≡ true = search (and-l, and-r) in
     let m : itemExists config op Write i ≡ true = below-at (op .count) (itemExists config op Write) k i l in
-    let n : (eqb (formAt op i) 1 || leb (secondAt op i) (config .counts .values))
-    ≡ true = and-r (isObject config (objectAt op i))
-    (eqb (formAt op i) 1 || leb (secondAt op i) (config .counts .values)) m in
+    let n : (eqb (formAt op i) 1 || leb (secondAt op i) (config .counts .values)) ≡ true =
+    and-r (isObject config (objectAt op i)) (eqb (formAt op i) 1 || leb (secondAt op i) (config .counts .values)) m in
     let w : secondAt op i ≤ config .counts .values = leb-true (secondAt op i) (config .counts .values) (rw e at n) in
     omega arith
 
@@ -137,7 +136,7 @@ module _ (room : ℕ) (config : Config) (op : Operation) (s answer : List ℕ) w
             (subst (λ (x : Family). q11 config op x (actorOf (op .code)) ≡ true) e h);
       }
 
--- an accepted file, a record read to its end, and question 11
+-- an accepted file, an operation read to its end, and question 11
 pub accepted-fit : (room : ℕ) (file bytes s answer : List ℕ) → (load file) .answer ≡ 0 → (readOperation bytes) .0 ≡ 0
     → length s ≡ areaLength room → answerBytes ≤ length answer
     → q11 ((load file) .config) ((readOperation bytes) .1) (familyOf ((readOperation bytes) .1 .code))

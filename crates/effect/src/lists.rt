@@ -2,6 +2,7 @@
 ghost use mathlib.Core.Path.{_≡_};
 ghost use lib.ListN.{getD};
 
+// A number of an item as an index.
 fn widen(x: u32) -> usize
     ensures { λ r. ⌜ r ≡ x ⌝ }
 {

@@ -113,7 +113,7 @@ fn move_listed(
     }
 }
 
-// Code 5.
+// Code 5: the partition exists.
 pub fn create_partition(area: &mut [u8], room: usize, op: Operation)
     requires { ⌜ length (now area) ≡ areaLength room ⌝ }
     ensures { λ _.
@@ -123,7 +123,7 @@ pub fn create_partition(area: &mut [u8], room: usize, op: Operation)
     set_status(area, room, op.partition, 1);
 }
 
-// Code 6.
+// Code 6: the partition is destroyed.
 pub fn destroy_partition(area: &mut [u8], room: usize, op: Operation)
     requires { ⌜ length (now area) ≡ areaLength room ⌝ }
     ensures { λ _.
@@ -133,7 +133,7 @@ pub fn destroy_partition(area: &mut [u8], room: usize, op: Operation)
     set_status(area, room, op.partition, 2);
 }
 
-// Code 7.
+// Code 7: a driver and its objects go to a partition, and the objects are cleared.
 pub fn activate_driver(area: &mut [u8], room: usize, config: Config, op: Operation)
     requires { ⌜ (length (now area) ≡ areaLength room) × (op .partition < 256) ⌝ }
     ensures { λ _.
@@ -155,7 +155,7 @@ pub fn activate_driver(area: &mut [u8], room: usize, config: Config, op: Operati
     );
 }
 
-// Code 8.
+// Code 8: a device and its objects go to a partition, and the objects are cleared, but for its kind 4.
 pub fn activate_device(area: &mut [u8], room: usize, config: Config, op: Operation)
     requires { ⌜ (length (now area) ≡ areaLength room) × (op .partition < 256) ⌝ }
     ensures { λ _.
@@ -177,7 +177,7 @@ pub fn activate_device(area: &mut [u8], room: usize, config: Config, op: Operati
     );
 }
 
-// Code 9.
+// Code 9: the listed objects go to a partition and are cleared.
 pub fn activate_external(area: &mut [u8], room: usize, config: Config, op: Operation)
     requires { ⌜ (length (now area) ≡ areaLength room) × (op .partition < 256) ⌝ }
     ensures { λ _.
@@ -195,7 +195,7 @@ pub fn activate_external(area: &mut [u8], room: usize, config: Config, op: Opera
     );
 }
 
-// Code 10.
+// Code 10: a driver and its objects go to no partition and keep their contents.
 pub fn deactivate_driver(area: &mut [u8], room: usize, config: Config, op: Operation)
     requires { ⌜ length (now area) ≡ areaLength room ⌝ }
     ensures { λ _.
@@ -216,7 +216,7 @@ pub fn deactivate_driver(area: &mut [u8], room: usize, config: Config, op: Opera
     );
 }
 
-// Code 11.
+// Code 11: a device and its objects go to no partition and keep their contents.
 pub fn deactivate_device(area: &mut [u8], room: usize, config: Config, op: Operation)
     requires { ⌜ length (now area) ≡ areaLength room ⌝ }
     ensures { λ _.
@@ -237,7 +237,7 @@ pub fn deactivate_device(area: &mut [u8], room: usize, config: Config, op: Opera
     );
 }
 
-// Code 12.
+// Code 12: the listed objects go to no partition and keep their contents.
 pub fn deactivate_external(area: &mut [u8], room: usize, config: Config, op: Operation)
     requires { ⌜ length (now area) ≡ areaLength room ⌝ }
     ensures { λ _.

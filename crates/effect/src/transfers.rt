@@ -92,7 +92,7 @@ fn scatter(area: &mut [u8], room: usize, seconds: &[u32], count: usize, answer: 
     }
 }
 
-// Codes 1 and 2.
+// Codes 1 and 2: each item is stored at its object.
 pub fn write_items(area: &mut [u8], room: usize, op: Operation)
     requires { ⌜ (length (now area) ≡ areaLength room) × (op .count ≤ mostItems) ⌝ }
     requires { ⌜ Small (op .seconds) (op .forms) (op .count) ⌝ }
@@ -111,7 +111,7 @@ pub fn write_items(area: &mut [u8], room: usize, op: Operation)
     );
 }
 
-// Codes 3 and 4. All sources are read before anything is stored.
+// Codes 3 and 4: sources go to the answer area and to their destinations. All are read before anything is stored.
 pub fn copy_contents(area: &mut [u8], room: usize, op: Operation, answer: &mut [u8])
     requires { ⌜ (length (now area) ≡ areaLength room) × (contentBytes * op .count ≤ length (now answer)) ⌝ }
     ensures { λ _.

@@ -122,15 +122,15 @@ abbrev pub Few : Num → Type 0
 Few (Bad f) = Unit {0}
 Few (Got v next) = v ≤ mostItems
 
-few-choose : (t : Bool) (v next : ℕ) → (t ≡ true → v ≤ mostItems) → Few (cond t (Got v next) (Bad Form))
-few-choose true v next h = h refl
-few-choose false v next h = tt
+few-got : (t : Bool) (v next : ℕ) → (t ≡ true → v ≤ mostItems) → Few (cond t (Got v next) (Bad Form))
+few-got true v next h = h refl
+few-got false v next h = tt
 
 pub few-counting : (n : Num) → Few (counting n)
 unfolding counting
 few-counting (Bad f) = tt
 few-counting (Got v next) =
-    few-choose (leb 1 v && leb v mostItems) v next (λ h. leb-true v mostItems (right (leb 1 v) (leb v mostItems) h))
+    few-got (leb 1 v && leb v mostItems) v next (λ h. leb-true v mostItems (right (leb 1 v) (leb v mostItems) h))
 
 pub count-few : (s : List ℕ) (at v next : ℕ) (n : Num) → n ≡ countAt s at → n ≡ Got v next → v ≤ mostItems
 unfolding countAt
@@ -176,8 +176,8 @@ module _ (f : ℕ → ℕ → Operation → Parse) (n i at : ℕ) (op : Operatio
       rw e
 
   module _ {parse : Parse} (h : i < n) (e : parse ≡ f i at op) where
-    pub turns-go : parse .answer ≡ 0 → turns f (n - i) i at op
-        ≡ turns f (n - (i + 1)) (i + 1) (parse .at) (parse .operation)
+    pub turns-go : parse .answer ≡ 0
+        → turns f (n - i) i at op ≡ turns f (n - (i + 1)) (i + 1) (parse .at) (parse .operation)
     unfolding andThen onward
     turns-go z = turns-more h ∙ rw (← e, z)
 
@@ -222,8 +222,8 @@ module _ (s : List ℕ) (i object at : ℕ) (op : Operation) where
   unfolding payload
   payload-none form e f p = rw (ne-eqb form 0 f, ne-eqb form 1 e) p
 
-  pub payload-number : (form : ℕ) {r : Parse} → form ≡ 0 → r
-      ≡ number s at (λ v next. read next (withItem op i object v 0))
+  pub payload-number : (form : ℕ) {r : Parse} → form ≡ 0
+      → r ≡ number s at (λ v next. read next (withItem op i object v 0))
       → r ≡ payload (eqb form 0) (eqb form 1) s i object at op
   unfolding payload
   payload-number form e p = rw e p
@@ -253,8 +253,7 @@ module _ (s : List ℕ) (i object at : ℕ) (op : Operation) where
     raw-go q o e raw p = rw (← h, not-false b q, ← e, p)
 
 pub paste-end : (raw : List ℕ) (to : ℕ) (s : List ℕ) (at k : ℕ) (out : List ℕ) → out ≡ pasted raw to s at k
-    → k ≤ contentBytes → contentBytes ≤ k
-    → out ≡ pasted raw to s at contentBytes
+    → k ≤ contentBytes → contentBytes ≤ k → out ≡ pasted raw to s at contentBytes
 paste-end raw to s at k out e h l =
     let q : k ≡ contentBytes = omega arith in
     rw q at e
@@ -264,8 +263,8 @@ module _ (s : List ℕ) (code at : ℕ) where
   abbrev As : (ℕ → List ℕ → ℕ → Parse) → ℕ → Type 0
   As f n = f code s at ≡ only (leb 1 n && leb n mostCode) (arguments (familyOf n) (actorOf n) code s at)
 
-  arm : (f : ℕ → List ℕ → ℕ → Parse) (n lo : ℕ) → lo ≤ code → code < lo + n → Each (As f) lo n → f code s at
-      ≡ afterCode s code at
+  arm : (f : ℕ → List ℕ → ℕ → Parse) (n lo : ℕ) → lo ≤ code → code < lo + n → Each (As f) lo n
+      → f code s at ≡ afterCode s code at
   unfolding afterCode
   arm f n lo h k e = each-at (As f) n lo code h k e
 
@@ -311,23 +310,23 @@ abbrev pub Refuses : Parsed → Type 0
 Refuses r = (r .answer ≡ 10) × (r .operation ≡ unread)
 
 module _ (s : List ℕ) {f : Num} (h : f ≡ numberAt s 0) {r : Parsed} where
-  pub record-bad : {q : Fault} → f ≡ Bad q → Refuses r → Answers r s
+  pub whole-bad : {q : Fault} → f ≡ Bad q → Refuses r → Answers r s
   unfolding readOperation taken refused ended
-  record-bad e p = rw (← h, e) p
+  whole-bad e p = rw (← h, e) p
 
   module _ {code at : ℕ} {parse : Parse} (e : f ≡ Got code at) (g : parse ≡ afterCode s code at) where
-    pub record-stop : (parse .answer ≡ 0 → ⊥) → Refuses r → Answers r s
+    pub whole-stop : (parse .answer ≡ 0 → ⊥) → Refuses r → Answers r s
     unfolding readOperation taken ended
-    record-stop z p = rw (← h, e) (rw (← g, ne-eqb (parse .answer) 0 z) p)
+    whole-stop z p = rw (← h, e) (rw (← g, ne-eqb (parse .answer) 0 z) p)
 
-    pub record-left : parse .answer ≡ 0 → (parse .at ≡ length s → ⊥) → Refuses r → Answers r s
+    pub whole-left : parse .answer ≡ 0 → (parse .at ≡ length s → ⊥) → Refuses r → Answers r s
     unfolding readOperation taken ended
-    record-left z l p = rw (← h, e) (rw (← g, z, ne-eqb (parse .at) (length s) l) p)
+    whole-left z l p = rw (← h, e) (rw (← g, z, ne-eqb (parse .at) (length s) l) p)
 
-    pub record-read : parse .answer ≡ 0 → parse .at ≡ length s → r .answer ≡ 0 → r .operation ≡ parse .operation
+    pub whole-read : parse .answer ≡ 0 → parse .at ≡ length s → r .answer ≡ 0 → r .operation ≡ parse .operation
         → Answers r s
     unfolding readOperation taken ended
-    record-read z l p q = rw (← h, e) (rw (← g, z, eq-eqb (parse .at) (length s) l) (p, q))
+    whole-read z l p q = rw (← h, e) (rw (← g, z, eq-eqb (parse .at) (length s) l) (p, q))
 
 -- a code's family and actor
 pub write-family : (code : ℕ) → code ≤ 2 → Write ≡ familyOf code

@@ -1,7 +1,7 @@
 // Items, pairs and listed objects, each read into an operation.
 ghost use mathlib.Core.Path.{_≡_};
 ghost use Prim.Native.Nat.{_+_, _*_, _<_, _≤_};
-ghost use lib.ListN.{length, take, drop};
+ghost use lib.ListN.{length};
 ghost use lib.Dec.{leb};
 ghost use Rattle.model.specs.Number.{mostNumber};
 ghost use Rattle.model.specs.State.{contentBytes};

@@ -1,5 +1,5 @@
 -- Question 9: one law for each way out and each turn of the tests.
-use Prim.Native.Nat.{ℕ, zero, suc, _+_, _≤_, _<_}
+use Prim.Native.Nat.{ℕ, zero, suc, _+_, _-_, _≤_, _<_}
 use mathlib.Core.Path.{_≡_, refl, sym, ap, _∙_}
 use mathlib.Core.List.{List, [], _∷_}
 use mathlib.Core.Bool.{Bool, true, false, not, _&&_}
@@ -93,16 +93,16 @@ module _ (room : ℕ) (s : List ℕ) where
   unfolding statusesRight
   status-high i h g =
       let t : leb (statusOf (view room s) i) 2 ≡ false = rw (status-byte room s i h) (lt-leb (getD s i 0) 2 g) in
-      let r : false ≡ all (λ v. leb v 2) (view room s .status) = all-off (λ v. leb v 2) (view room s .status) i
-      (omega (arith, view-shape room s .statuses)) t in
+      let r : false ≡ all (λ v. leb v 2) (view room s .status) =
+      all-off (λ v. leb v 2) (view room s .status) i (omega (arith, view-shape room s .statuses)) t in
       rw (← r) (and-false (eqb (statusOf (view room s) 0) 0))
 
   pub status-end : (i : ℕ) → getD s 0 0 ≡ 0 → i ≤ partitionCount → partitionCount ≤ i → low s i ≡ true
       → true ≡ statusesRight (view room s)
   unfolding statusesRight low
   status-end i z h k l =
-      let f : eqb (statusOf (view room s) 0) 0
-      ≡ true = eq-eqb (statusOf (view room s) 0) 0 (status-byte room s 0 (omega arith) ∙ z) in
+      let f : eqb (statusOf (view room s) 0) 0 ≡ true =
+      eq-eqb (statusOf (view room s) 0) 0 (status-byte room s 0 (omega arith) ∙ z) in
       let r : all (λ v. leb v 2) (view room s .status) ≡ true =
       all-on (λ v. leb v 2) (view room s .status)
       (λ j q.
@@ -205,7 +205,7 @@ zero-at (suc k) (suc i) = zero-at k i
 
 behind : (v i : ℕ) → 1 ≤ i → getD (valueBytes v) i 0 ≡ 0
 behind v zero h = absurd (omega arith)
-behind v (suc i) h = zero-at 15 i
+behind v (suc i) h = zero-at (contentBytes - 1) i
 
 module _ (c : List ℕ) (v : ℕ) where
   pub value-first : (getD c 0 0 ≡ v → ⊥) → false ≡ isValue c v
@@ -224,7 +224,7 @@ module _ (c : List ℕ) (v : ℕ) where
     where
       at : (k : ℕ) → k < length c → getD c k 0 ≡ getD (valueBytes v) k 0
       at zero s = e
-      at (suc k) s = z (suc k) (omega arith) (omega arith) ∙ sym (zero-at 15 k)
+      at (suc k) s = z (suc k) (omega arith) (omega arith) ∙ sym (zero-at (contentBytes - 1) k)
 
 pub zeros-none : (c : List ℕ) → Zeros c 1
 unfolding Zeros

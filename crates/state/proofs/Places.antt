@@ -1,5 +1,5 @@
 -- What a byte of an area is in its state, read and stored, for every number: in range and past it.
-use Prim.Native.Nat.{ℕ, zero, suc, _+_, _≤_, _<_}
+use Prim.Native.Nat.{ℕ, zero, suc, _+_, _-_, _≤_, _<_}
 use mathlib.Core.Path.{_≡_, refl, sym, ap, _∙_}
 use mathlib.Core.List.{List, [], _∷_}
 use native.Mathlib.Omega.{arith}
@@ -137,7 +137,8 @@ module _ (room : ℕ) (s : List ℕ) where
   value-in n h k =
       let z : contentPlace n + 0 ≡ contentPlace n = omega arith in
       sym (ap (λ (c : List ℕ). getD c 0 0) (content-bytes room s n (omega arith) k)
-      ∙ (first-window 15 (drop (contentPlace n) s) ∙ (getD-drop (contentPlace n) s 0 0 ∙ ap (λ (i : ℕ). getD s i 0) z)))
+      ∙ (first-window (contentBytes - 1) (drop (contentPlace n) s)
+      ∙ (getD-drop (contentPlace n) s 0 0 ∙ ap (λ (i : ℕ). getD s i 0) z)))
 
 -- stores: s is the area, with the right length
 module _ (room : ℕ) (s : List ℕ) (fits : length s ≡ areaLength room) where

@@ -45,8 +45,9 @@ returns-5 c = Laws.activate-arm _ _ _ (omega arith) (omega arith) (c .read-activ
 
 returns-6 : tie.Need-returns-6
 returns-6 c =
-    let h : c .before .before .before .before .before .before .before .before .before .args .code ≡ 9
-    → ⊥ = λ e. c .before .before .before .before .before .before .before .match .rest .1 (inl e) in
+    let code = c .before .before .before .before .before .before .before .before .before .args .code in
+    let rest = c .before .before .before .before .before .before .before .match .rest in
+    let h : code ≡ 9 → ⊥ = λ e. rest .1 (inl e) in
     Laws.deactivate-arm _ _ _ (omega arith) (omega arith) (c .read-deactivation .ensures)
 
 returns-7 : tie.Need-returns-7
