@@ -26,3 +26,4 @@ pub mod FormedMoves
 pub mod Reached
 pub mod Demand2
 pub mod OperationRange
+pub mod Answers
