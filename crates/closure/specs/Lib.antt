@@ -1,0 +1,5 @@
+pub mod Digits
+pub mod Rules
+pub mod Scene
+pub mod Words
+pub mod Search

@@ -1,0 +1,113 @@
+// The tests of the closure's rules, on the configuration's columns and a state area.
+use crate::area;
+ghost use mathlib.Core.Path.{_≡_};
+ghost use Prim.Native.Nat.{_<_, _≤_};
+ghost use lib.ListN.{length};
+ghost use Rattle.model.specs.Config.{mostDevices, mostObjects, entryAt};
+ghost use Rattle.model.specs.State.{areaLength, view};
+ghost use Rattle.closure.specs.Scene.{In, EntryOk};
+ghost use Rattle.closure.specs.Rules.{holdsValue, readsMode, writesMode, opens, stores, starts, owned, crossing};
+use model::ENTRY_SLOTS;
+use model::MOST_ENTRIES;
+use model::OBJECT_SLOTS;
+
+// How many entries a value has room for.
+pub const ENTRY_ROOM: usize = MOST_ENTRIES as usize;
+
+// An object of this kind is a descriptor.
+fn holds_value(kind: u8) -> bool
+    ensures { λ r. ⌜ r ≡ holdsValue kind ⌝ }
+{
+    (kind == 1) | (kind == 4)
+}
+
+// An entry of this mode reads.
+pub fn is_reading(mode: u8) -> bool
+    ensures { λ r. ⌜ r ≡ readsMode mode ⌝ }
+{
+    (mode == 1) | (mode == 3)
+}
+
+// An entry of this mode writes.
+pub fn is_writing(mode: u8) -> bool
+    ensures { λ r. ⌜ r ≡ writesMode mode ⌝ }
+{
+    (mode == 2) | (mode == 3)
+}
+
+// A byte as a place of a table.
+pub fn wide(x: u8) -> usize
+    ensures { λ r. ⌜ r ≡ x ⌝ }
+    ensures { λ r. ⌜ r < 256 ⌝ }
+{
+    x as usize
+}
+
+// The entry at a place reads a descriptor.
+pub fn is_opening<'a>(
+    kind: &'a [u8; OBJECT_SLOTS],
+    entries: &'a [u8; ENTRY_SLOTS],
+    at: usize,
+) -> bool
+    requires { ⌜ EntryOk (now entries) at ⌝ }
+    ensures { λ r. ⌜ r ≡ opens (now (kind .entry)) (entryAt (now (entries .entry)) at) ⌝ }
+{
+    let o = entries[at] as usize;
+    is_reading(entries[at + 1]) & holds_value(kind[o])
+}
+
+// The entry at a place writes an object of kind 1, and write entries count.
+pub fn is_storing<'a>(
+    kind: &'a [u8; OBJECT_SLOTS],
+    entries: &'a [u8; ENTRY_SLOTS],
+    storing: bool,
+    at: usize,
+) -> bool
+    requires { ⌜ EntryOk (now entries) at ⌝ }
+    ensures { λ r. ⌜ r ≡ stores (now (kind .entry)) storing (entryAt (now (entries .entry)) at) ⌝ }
+{
+    let o = entries[at] as usize;
+    storing & is_writing(entries[at + 1]) & (kind[o] == 1)
+}
+
+// Object o is an active descriptor.
+pub fn is_live(kind: &[u8; OBJECT_SLOTS], area: &[u8], room: usize, o: usize) -> bool
+    requires { ⌜ length (now area) ≡ areaLength room ⌝ }
+    requires { ⌜ In room o ⌝ }
+    requires { ⌜ o ≤ mostObjects ⌝ }
+    ensures { λ r. ⌜ r ≡ starts (now (kind .entry)) (view room (now (area .entry))) o ⌝ }
+{
+    holds_value(kind[o]) & (area::object_in(area, room, o) != 0)
+}
+
+// Device c is active, and object o is its hardcoded descriptor.
+pub fn is_owned<'a>(
+    kind: &'a [u8; OBJECT_SLOTS],
+    class: &'a [u8; OBJECT_SLOTS],
+    owner: &'a [u8; OBJECT_SLOTS],
+    area: &[u8],
+    room: usize,
+    c: usize,
+    o: usize,
+) -> bool
+    requires { ⌜ length (now area) ≡ areaLength room ⌝ }
+    requires { ⌜ In mostDevices c ⌝ }
+    requires { ⌜ o ≤ mostObjects ⌝ }
+    ensures { λ r.
+        ⌜ r ≡ owned (now (kind .entry)) (now (class .entry)) (now (owner .entry)) (view room (now (area .entry))) c
+        o ⌝ }
+{
+    let active = area::device_in(area, room, c) != 0;
+    active & ((kind[o] == 4) & (class[o] == 2) & (wide(owner[o]) == c))
+}
+
+// An entry of device c that names object o crosses.
+pub fn is_crossing(kind: &[u8; OBJECT_SLOTS], area: &[u8], room: usize, c: usize, o: usize) -> bool
+    requires { ⌜ length (now area) ≡ areaLength room ⌝ }
+    requires { ⌜ In mostDevices c ⌝ }
+    requires { ⌜ In room o ⌝ }
+    requires { ⌜ o ≤ mostObjects ⌝ }
+    ensures { λ r. ⌜ r ≡ crossing (now (kind .entry)) (view room (now (area .entry))) c o ⌝ }
+{
+    (kind[o] == 4) | (area::object_in(area, room, o) != area::device_in(area, room, c))
+}
