@@ -1,1 +1,5 @@
 pub mod Fresh
+pub mod Readying
+pub mod Calling
+pub mod Marking
+pub mod Asking

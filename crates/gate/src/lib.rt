@@ -1,8 +1,22 @@
 // What a C host calls: numbers and byte areas in, a number out.
+mod call;
+mod leaving;
+mod next;
+mod transfers;
+
 ghost use mathlib.Core.Path.{_≡_};
 ghost use Rattle.model.specs.ConfigFile.{load};
-ghost use Rattle.model.specs.Gate.{makeFresh};
+ghost use Rattle.model.specs.Gate.{makeFresh, operate};
+use model::CONTENT_BYTES;
+use model::MOST_ITEMS;
 use model::MOST_OBJECTS;
+use state::RECORD_BYTES;
+use state::RECORDS_FROM;
+
+// The length of the state area, and what the answer area has at least.
+const AREA_BYTES: usize = RECORDS_FROM + RECORD_BYTES * (MOST_OBJECTS as usize);
+
+const ANSWER_BYTES: usize = CONTENT_BYTES * MOST_ITEMS;
 
 // Questions 1 to 6 of a configuration file: 0, or the number of the first that is answered with no.
 #[no_mangle]
@@ -30,4 +44,24 @@ pub extern "C" fn gate_fresh(line: &[u8], state: &mut [u8]) -> u32
     }
     state::fresh::make_fresh(state, room, config);
     0
+}
+
+// An operation (document 01: operation record) on the state area lent: questions 1 to 20, in this order. At 0 it is
+// carried out, and a read's contents stand in the answer area. A refusal leaves both areas as they were.
+#[no_mangle]
+pub extern "C" fn gate_operate(line: &[u8], state: &mut [u8], rec: &[u8], answer: &mut [u8]) -> u32
+    ensures { λ r.
+        ⌜ r ≡ (operate (now (line .entry)) (now (state .entry)) (now (rec .entry)) (now (answer .entry))) .0 ⌝ }
+    ensures { λ _.
+        ⌜ now (state .exit)
+        ≡ (operate (now (line .entry)) (now (state .entry)) (now (rec .entry)) (now (answer .entry))) .1 ⌝ }
+    ensures { λ _.
+        ⌜ now (answer .exit)
+        ≡ (operate (now (line .entry)) (now (state .entry)) (now (rec .entry)) (now (answer .entry))) .2 ⌝ }
+{
+    let loaded = config::load(line);
+    if loaded.answer != 0 {
+        return loaded.answer as u32;
+    }
+    call::operate_on(loaded.config, MOST_OBJECTS as usize, state, rec, answer)
 }

@@ -1,0 +1,82 @@
+// One operation call whose configuration was accepted: questions 7 to 20, and then the effect. `room` is how many
+// object records the state area has.
+ghost use mathlib.Core.Path.{_≡_};
+ghost use Rattle.model.specs.State.{records, view};
+ghost use Rattle.model.specs.Gate.{judged};
+ghost use Rattle.gate.specs.Ready.{Accepted, Ready, Complete};
+ghost use Rattle.gate.specs.Carried.{carried};
+use crate::ANSWER_BYTES;
+use crate::leaving::stays_unnamed;
+use crate::next::stays_confined;
+use crate::transfers::are_described;
+use effect::carry_out;
+use model::Config;
+use model::Operation;
+use operation::codes::actor_of;
+use operation::codes::family_of;
+use operation::read_operation;
+use state::formed::well_formed;
+use state::look::right_length;
+
+// The number of the first of the questions 11 to 20 that is answered with no, or 0.
+fn judge_all(config: Config, area: &[u8], room: usize, op: Operation) -> u8
+    requires { ⌜ Ready config room (now area) ⌝ }
+    requires { ⌜ Complete op ⌝ }
+    ensures { λ r. ⌜ r ≡ judged config op (view room (now (area .entry))) ⌝ }
+{
+    let q = questions::judge(config, area, room, op);
+    if q != 0 {
+        return q;
+    }
+    let f = family_of(op.code);
+    let a = actor_of(op.code);
+    if !are_described(config, area, room, op, f, a) {
+        return 18;
+    }
+    if !stays_confined(config, area, room, op, f, a) {
+        return 19;
+    }
+    if !stays_unnamed(config, area, room, op, f, a) {
+        return 20;
+    }
+    0
+}
+
+// The answer; both areas change at answer 0 only.
+pub fn operate_on(
+    config: Config,
+    room: usize,
+    state: &mut [u8],
+    rec: &[u8],
+    answer: &mut [u8],
+) -> u32
+    requires { ⌜ Accepted config ⌝ }
+    requires { ⌜ room ≡ records config ⌝ }
+    ensures { λ r.
+        ⌜ r ≡ (carried config (now (state .entry)) (now (rec .entry)) (now (answer .entry))) .0 ⌝ }
+    ensures { λ _.
+        ⌜ now (state .exit) ≡ (carried config (now (state .entry)) (now (rec .entry)) (now (answer .entry))) .1 ⌝ }
+    ensures { λ _.
+        ⌜ now (answer .exit) ≡ (carried config (now (state .entry)) (now (rec .entry)) (now (answer .entry))) .2 ⌝ }
+{
+    if !right_length(&state[..], room) {
+        return 7;
+    }
+    if answer.len() < ANSWER_BYTES {
+        return 8;
+    }
+    if !well_formed(&state[..], room, config) {
+        return 9;
+    }
+    let parsed = read_operation(rec);
+    if parsed.answer != 0 {
+        return parsed.answer as u32;
+    }
+    let op = parsed.operation;
+    let refusal = judge_all(config, &state[..], room, op);
+    if refusal != 0 {
+        return refusal as u32;
+    }
+    carry_out(state, room, config, op, answer);
+    0
+}

@@ -1,0 +1,202 @@
+// Question 18: each transfer of a device's write or copy is described now.
+ghost use mathlib.Core.Path.{_≡_};
+ghost use Prim.Native.Nat.{_≤_};
+ghost use lib.ListN.{length};
+ghost use Rattle.model.specs.State.{areaLength, view};
+ghost use Rattle.model.specs.Operation.{mostItems};
+ghost use Rattle.model.specs.Questions.{q18};
+ghost use Rattle.closure.specs.Scene.{Scene, ValuesOk};
+ghost use Rattle.closure.specs.Search.{Today};
+ghost use Rattle.questions.specs.Items.{upTo};
+ghost use Rattle.gate.specs.Ready.{Ready, Complete};
+ghost use Rattle.gate.specs.Asking.{stores, byDevice, todayOf, pairDescribed, transferOf, itemDescribed};
+use closure::described::is_described;
+use closure::described::today;
+use model::Actor;
+use model::Config;
+use model::Counts;
+use model::ENTRY_SLOTS;
+use model::Family;
+use model::OBJECT_SLOTS;
+use model::Operation;
+use model::VALUE_SLOTS;
+use questions::lookups::number_of;
+use state::look::value;
+
+// A write or a copy.
+pub fn is_storing(f: Family) -> bool
+    ensures { λ r. ⌜ r ≡ stores f ⌝ }
+{
+    match f {
+        Family::Write => true,
+        Family::Copy => true,
+        Family::Create => false,
+        Family::Destroy => false,
+        Family::Activate => false,
+        Family::Deactivate => false,
+    }
+}
+
+// A device acts.
+pub fn is_by_device(a: Actor) -> bool
+    ensures { λ r. ⌜ r ≡ byDevice a ⌝ }
+{
+    match a {
+        Actor::Driver => false,
+        Actor::Device => true,
+        Actor::External => false,
+    }
+}
+
+// A pair of a copy: the read of its source and, unless the destination is 0, the write of what the source holds.
+fn pair_described<'a>(
+    counts: Counts,
+    kind: &'a [u8; OBJECT_SLOTS],
+    count: &'a [u8; VALUE_SLOTS],
+    entries: &'a [u8; ENTRY_SLOTS],
+    area: &[u8],
+    room: usize,
+    done: &[u64; VALUE_SLOTS],
+    device: usize,
+    source: usize,
+    destination: usize,
+) -> bool
+    requires { ⌜ ValuesOk counts (now count) (now entries) ⌝ }
+    requires { ⌜ length (now area) ≡ areaLength room ⌝ }
+    ensures { λ r.
+        ⌜ ((m : Scene)
+        → Today (todayOf m counts (now (kind .entry)) (now (count .entry)) (now (entries .entry))
+        (view room (now (area .entry)))) (now (done .entry))
+        → r ≡ pairDescribed (todayOf m counts (now (kind .entry)) (now (count .entry)) (now (entries .entry))
+        (view room (now (area .entry))) .config) (view room (now (area .entry))) device source destination) ⌝ }
+{
+    if !is_described(counts, kind, count, entries, done, device, source, false, 0) {
+        return false;
+    }
+    if destination == 0 {
+        return true;
+    }
+    let v = value(area, room, source);
+    is_described(
+        counts,
+        kind,
+        count,
+        entries,
+        done,
+        device,
+        destination,
+        true,
+        v as usize,
+    )
+}
+
+// The transfers of an item with object o and second number v.
+fn item_described<'a>(
+    counts: Counts,
+    kind: &'a [u8; OBJECT_SLOTS],
+    count: &'a [u8; VALUE_SLOTS],
+    entries: &'a [u8; ENTRY_SLOTS],
+    area: &[u8],
+    room: usize,
+    done: &[u64; VALUE_SLOTS],
+    device: usize,
+    f: Family,
+    o: usize,
+    v: usize,
+) -> bool
+    requires { ⌜ ValuesOk counts (now count) (now entries) ⌝ }
+    requires { ⌜ length (now area) ≡ areaLength room ⌝ }
+    ensures { λ r.
+        ⌜ ((m : Scene)
+        → Today (todayOf m counts (now (kind .entry)) (now (count .entry)) (now (entries .entry))
+        (view room (now (area .entry)))) (now (done .entry))
+        → r ≡ transferOf (todayOf m counts (now (kind .entry)) (now (count .entry)) (now (entries .entry))
+        (view room (now (area .entry))) .config) (view room (now (area .entry))) device f o v) ⌝ }
+{
+    match f {
+        Family::Write => { is_described(counts, kind, count, entries, done, device, o, true, v) }
+        Family::Copy => pair_described(
+            counts,
+            kind,
+            count,
+            entries,
+            area,
+            room,
+            done,
+            device,
+            o,
+            v,
+        ),
+        Family::Create => true,
+        Family::Destroy => true,
+        Family::Activate => true,
+        Family::Deactivate => true,
+    }
+}
+
+// Those of every item.
+fn items_described(config: Config, area: &[u8], room: usize, op: Operation, f: Family) -> bool
+    requires { ⌜ Ready config room (now area) ⌝ }
+    requires { ⌜ op .count ≤ mostItems ⌝ }
+    ensures { λ r. ⌜ r ≡ upTo (op .count) (itemDescribed config (view room (now (area .entry))) op f) ⌝ }
+{
+    let counts = config.counts;
+    let t = config.objects;
+    let w = config.values;
+    let done = today(
+        counts,
+        &t.kind,
+        &t.class,
+        &t.owner,
+        &w.count,
+        &w.entries,
+        area,
+        room,
+    );
+    let device = op.subject;
+    let n = op.count;
+    let mut i = 0;
+    while i < n {
+        let o = number_of(&op.objects, i);
+        let v = number_of(&op.seconds, i);
+        if !item_described(
+            counts,
+            &t.kind,
+            &w.count,
+            &w.entries,
+            area,
+            room,
+            &done,
+            device,
+            f,
+            o,
+            v,
+        ) {
+            return false;
+        }
+        i += 1;
+    }
+    true
+}
+
+// 18: in a device's write or copy each transfer is described now.
+pub fn are_described(
+    config: Config,
+    area: &[u8],
+    room: usize,
+    op: Operation,
+    f: Family,
+    a: Actor,
+) -> bool
+    requires { ⌜ Ready config room (now area) ⌝ }
+    requires { ⌜ Complete op ⌝ }
+    ensures { λ r. ⌜ r ≡ q18 config (view room (now (area .entry))) op f a ⌝ }
+{
+    if !is_by_device(a) {
+        return true;
+    }
+    if !is_storing(f) {
+        return true;
+    }
+    items_described(config, area, room, op, f)
+}
