@@ -1,0 +1,97 @@
+"""Configurations and states for the benchmark of the closure's search: the bytes of a line file and of a state area."""
+import pathlib
+import random
+import sys
+
+sys.path.insert(0, str(pathlib.Path(__file__).resolve().parent.parent / "tests"))
+from papers import AREA, DEVICES_FROM, DRIVERS_FROM, record_at  # noqa: E402
+from vectors import row  # noqa: E402
+
+READ, WRITE, BOTH = 1, 2, 3
+
+
+class Line:
+    """A configuration with everything in partition 1; objects are (kind, class, owner), values lists of entries."""
+
+    def __init__(self, drivers, devices, objects, values, last=False):
+        """The hardcoded descriptors have the smallest numbers, or the largest if `last`."""
+        self.drivers, self.devices = drivers, devices
+        before = objects - devices if last else 0
+        self.objects = {n: (4, 2, n - before) if 0 < n - before <= devices else (1, 2, (n - 1) % devices + 1)
+                        for n in range(1, objects + 1)}
+        self.hardcoded = {c: 0 for c in range(1, devices + 1)}
+        self.values = {v: [] for v in range(1, values + 1)}
+        self.held = {}
+        self.elsewhere = set()
+
+    def own(self, device):
+        """The transfer descriptors of a device."""
+        return [n for n, o in self.objects.items() if o == (1, 2, device)]
+
+    def file(self):
+        numbers = [1, self.drivers, self.devices, len(self.objects), len(self.values)]
+        numbers += sum((list(o) for o in self.objects.values()), [])
+        numbers += self.hardcoded.values()
+        for entries in self.values.values():
+            numbers += [len(entries)] + sum((list(e) for e in entries), [])
+        return row(numbers)
+
+    def area(self):
+        area = bytearray(AREA)
+        area[1] = area[2] = 1
+        for i in range(self.drivers):
+            area[DRIVERS_FROM + i] = 1
+        for i in range(self.devices):
+            area[DEVICES_FROM + i] = 1
+        for n, (kind, _, owner) in self.objects.items():
+            area[record_at(n)] = 2 if n in self.elsewhere else 1
+            area[record_at(n) + 1] = self.hardcoded[owner] if kind == 4 else self.held.get(n, 0)
+        return bytes(area)
+
+
+def dense(devices=16, objects=96, values=47, seed=1, last=False):
+    """Six random entries in every value, all within the one partition; every descriptor holds some value."""
+    rnd = random.Random(seed)
+    line = Line(min(16, devices), devices, objects, values, last)
+    descriptors = [n for n, o in line.objects.items() if o[0] == 1]
+    for c in line.hardcoded:
+        line.hardcoded[c] = c if c <= values // 3 else 0
+    for v in line.values:
+        for _ in range(6):
+            if v <= values // 3:
+                line.values[v].append((rnd.choice(line.own(v)), READ, 0))
+            else:
+                mode = rnd.choice([READ, WRITE, BOTH])
+                stored = rnd.randrange(values // 3 + 1, values + 1) if mode != READ else 0
+                line.values[v].append((rnd.choice(descriptors), mode, stored))
+    for n in descriptors:
+        line.held[n] = rnd.randrange(values // 3 + 1, values + 1)
+    return line
+
+
+def chain(devices=16, objects=96, values=47):
+    """Each value stores the next one into the descriptor below and reads it: one step a sweep, against its order."""
+    line = Line(min(16, devices), devices, objects, values)
+    line.hardcoded[devices] = 1
+    line.values[1] = [(objects, READ, 0)]
+    line.held[objects] = 2
+    for v in range(2, values):
+        line.values[v] = [(objects - v + 1, BOTH, v + 1)]
+    return line
+
+
+def crossing(**size):
+    """As dense, but the first entry that the first device comes to names an object of another partition."""
+    line = dense(**size)
+    last = max(n for n, o in line.objects.items() if o[0] == 1)
+    line.objects[last] = (3, 0, 0)
+    line.held.pop(last, None)
+    line.elsewhere.add(last)
+    hardcoded = set(line.hardcoded.values())
+    for v, entries in line.values.items():
+        kept = [e for e in entries if e[0] != last]
+        line.values[v] = kept if v in hardcoded else kept + [(last, mode, 0) for n, mode, _ in entries if n == last]
+    own = line.own(1)[0]
+    line.values[1][0] = (own, READ, 0)
+    line.values[line.held[own]][0] = (last, READ, 0)
+    return line
