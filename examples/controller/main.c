@@ -1,0 +1,52 @@
+// A controller in small: makes a fresh state of document 01's line L, carries out its sequence P, and prints each record
+// with its answer. Ends with status 1 if an answer is not the one that document 01 gives.
+#include <stdio.h>
+#include <string.h>
+
+#include "sorter_gate.h"
+
+static const uint8_t LINE_L[] = {1, 2, 2, 6, 5, 4, 2, 1, 1, 2, 1, 4, 2, 2, 1, 2, 2, 3, 0, 0, 3, 1, 1,
+                                 1, 2, 1, 2, 1, 0, 1, 4, 1, 0, 1, 5, 2, 0, 1, 4, 2, 3, 1, 2, 2, 4};
+
+struct step {
+    uint8_t record[8];
+    size_t length;
+    uint32_t answer;
+    const char *what;
+};
+
+static const struct step SEQUENCE_P[] = {
+    {{5, 1}, 2, 0, "create partition 1"},
+    {{5, 2}, 2, 0, "create partition 2"},
+    {{7, 1, 1}, 3, 0, "driver 1 into partition 1"},
+    {{8, 1, 1}, 3, 0, "card 1 into partition 1"},
+    {{8, 2, 2}, 3, 0, "card 2 into partition 2"},
+    {{9, 1, 1, 5}, 4, 0, "object 5 into partition 1"},
+    {{1, 1, 1, 2, 0, 3}, 6, 0, "driver 1 writes value 3 to object 2"},
+    {{12, 1, 1, 5}, 4, 20, "object 5 out: card 1 can still write it"},
+    {{1, 1, 1, 2, 0, 4}, 6, 19, "driver 1 writes value 4 to object 2: it names card 2's object"},
+    {{1, 1, 1, 2, 0, 5}, 6, 19, "driver 1 writes value 5 to object 2: a chain of two leads there"},
+    {{1, 1, 1, 4, 0, 3}, 6, 17, "driver 1 writes object 4, which is elsewhere"},
+    {{1, 1, 1, 1, 0, 0}, 6, 13, "driver 1 writes a hard-wired descriptor"},
+    {{1, 2, 1, 2, 0, 0}, 6, 16, "driver 2 is not active"},
+    {{6, 2}, 2, 15, "destroy partition 2: card 2 is in it"},
+    {{11, 2}, 2, 0, "card 2 out"},
+    {{6, 2}, 2, 0, "destroy partition 2"},
+};
+
+int main(void) {
+    static uint8_t state[SORTER_GATE_STATE_BYTES], answer[SORTER_GATE_ANSWER_BYTES];
+    uint32_t fresh = gate_fresh(LINE_L, sizeof LINE_L, state, sizeof state);
+    if (fresh != SORTER_GATE_ACCEPTED) {
+        printf("the line is refused: %u\n", fresh);
+        return 1;
+    }
+    int wrong = 0;
+    for (size_t i = 0; i < sizeof SEQUENCE_P / sizeof *SEQUENCE_P; i++) {
+        const struct step *s = &SEQUENCE_P[i];
+        uint32_t n = gate_operate(LINE_L, sizeof LINE_L, state, sizeof state, s->record, s->length, answer, sizeof answer);
+        printf("%2zu %2u  %s\n", i + 1, n, s->what);
+        wrong += n != s->answer;
+    }
+    return wrong != 0;
+}

@@ -1,0 +1,13 @@
+#!/usr/bin/env bash
+# Builds the library and the controller, and runs it: once as it is, once under AddressSanitizer.
+set -euo pipefail
+cd "$(dirname "$0")/../.."
+rt staticlib gate > /dev/null 2>&1
+out=$(mktemp -d)
+trap 'rm -rf "$out"' EXIT
+flags="-std=c11 -O2 -Wall -Wextra -Werror -Iinclude"
+gcc $flags -o "$out/plain" examples/controller/main.c target/staticlib/libgate.a
+gcc $flags -g -fsanitize=address,undefined -o "$out/checked" examples/controller/main.c target/staticlib/libgate.a
+"$out/plain"
+"$out/checked" > "$out/second"
+"$out/plain" | cmp - "$out/second"
