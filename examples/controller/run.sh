@@ -2,9 +2,9 @@
 # Builds the library and the controller, and runs it: once as it is, once under AddressSanitizer.
 set -euo pipefail
 cd "$(dirname "$0")/../.."
-rt staticlib gate > /dev/null 2>&1
 out=$(mktemp -d)
 trap 'rm -rf "$out"' EXIT
+rt staticlib gate > "$out/log" 2>&1 || { tail -n 20 "$out/log"; exit 1; }
 flags="-std=c11 -O2 -Wall -Wextra -Werror -Iinclude"
 gcc $flags -o "$out/plain" examples/controller/main.c target/staticlib/libgate.a
 gcc $flags -g -fsanitize=address,undefined -o "$out/checked" examples/controller/main.c target/staticlib/libgate.a

@@ -1,7 +1,7 @@
 -- A call by its ways out: the file is refused, a question of 7 to 20 is answered with no, or the operation is carried
 -- out. Assumes nothing.
 use Prim.Native.Nat.{ℕ, zero, suc, _≤_, _<_}
-use mathlib.Core.Path.{_≡_, refl, sym, ap, _∙_, subst}
+use mathlib.Core.Path.{_≡_, refl, sym, ap, _∙_}
 use mathlib.Core.List.{List}
 use mathlib.Core.Bool.{Bool, true, false}
 use native.Mathlib.Omega.{arith}
@@ -12,7 +12,7 @@ use Rattle.model.specs.ConfigFile.{load}
 use Rattle.model.specs.State.{State, records, areaLength, view, layout, wellFormed}
 use Rattle.model.specs.Operation.{familyOf, actorOf, readOperation}
 use Rattle.model.specs.Effect.{answerBytes, answered}
-use Rattle.model.specs.Questions.{q11, q12, q13, q14, q15, q16, q17, q18, q19, q20, ask, judge}
+use Rattle.model.specs.Questions.{q11, q12, q13, q18, q19, q20, ask}
 use Rattle.model.specs.Gate.{orElse, applied, judged, verdict, outcome, operate}
 use Rattle.model.specs.declared.Family.{Family}
 use Rattle.model.specs.declared.Actor.{Actor}
