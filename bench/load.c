@@ -5,6 +5,8 @@
 #include <stdlib.h>
 #include <string.h>
 
+#include "slurp.h"
+
 uint32_t gate_load_check(const uint8_t *line, size_t line_len);
 uint32_t plain_load_check(const uint8_t *line, size_t line_len);
 
@@ -14,13 +16,7 @@ int main(int argc, char **argv) {
         fprintf(stderr, "load FILE TIMES gate|plain\n");
         return 2;
     }
-    FILE *f = fopen(argv[1], "rb");
-    if (!f) {
-        perror(argv[1]);
-        return 2;
-    }
-    size_t n = fread(file, 1, sizeof file, f);
-    fclose(f);
+    size_t n = slurp(argv[1], file, sizeof file);
     uint32_t (*check)(const uint8_t *, size_t) = strcmp(argv[3], "gate") ? plain_load_check : gate_load_check;
     long times = atol(argv[2]);
     uint32_t answer = 0;

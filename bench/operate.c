@@ -4,18 +4,8 @@
 #include <stdlib.h>
 #include <string.h>
 
+#include "slurp.h"
 #include "sorter_gate.h"
-
-static size_t slurp(const char *name, uint8_t *to, size_t most) {
-    FILE *f = fopen(name, "rb");
-    if (!f) {
-        perror(name);
-        exit(2);
-    }
-    size_t n = fread(to, 1, most, f);
-    fclose(f);
-    return n;
-}
 
 int main(int argc, char **argv) {
     static uint8_t line[4096], area[4096], state[4096], record[4096], answer[SORTER_GATE_ANSWER_BYTES];

@@ -4,18 +4,9 @@
 #include <stdio.h>
 #include <stdlib.h>
 
-uint32_t probe_search(const uint8_t *line, size_t line_len, const uint8_t *area, size_t area_len, uint32_t search);
+#include "slurp.h"
 
-static size_t slurp(const char *name, uint8_t *to, size_t most) {
-    FILE *f = fopen(name, "rb");
-    if (!f) {
-        perror(name);
-        exit(2);
-    }
-    size_t n = fread(to, 1, most, f);
-    fclose(f);
-    return n;
-}
+uint32_t probe_search(const uint8_t *line, size_t line_len, const uint8_t *area, size_t area_len, uint32_t search);
 
 int main(int argc, char **argv) {
     static uint8_t line[4096], area[4096];
