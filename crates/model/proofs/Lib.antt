@@ -27,3 +27,6 @@ pub mod Reached
 pub mod Demand2
 pub mod OperationRange
 pub mod Answers
+pub mod OfficeLaws
+pub mod AnswerRange
+pub mod OfficeLength

@@ -10,4 +10,5 @@ pub mod Questions
 pub mod Gate
 pub mod Trace
 pub mod Separation
+pub mod Office
 pub mod Examples
