@@ -14,6 +14,7 @@ use Rattle.model.specs.Operation.{familyOf, actorOf, readOperation}
 use Rattle.model.specs.Effect.{answerBytes, answered}
 use Rattle.model.specs.Questions.{q11, q12, q13, q18, q19, q20, ask}
 use Rattle.model.specs.Gate.{orElse, applied, judged, verdict, outcome, operate}
+use Rattle.model.specs.Programs.{Operated}
 use Rattle.model.specs.declared.Family.{Family}
 use Rattle.model.specs.declared.Actor.{Actor}
 use Rattle.model.specs.declared.Config.{Config}
@@ -26,32 +27,27 @@ use Rattle.gate.specs.Ready.{Complete, Asked}
 use Rattle.gate.specs.Carried.{carried}
 
 -- the answer and both areas are those of the definition
-abbrev pub Meant : List ℕ → List ℕ → List ℕ → List ℕ → ℕ → List ℕ → List ℕ → Type 0
-Meant file area bytes answer r s a =
-    (r ≡ (operate file area bytes answer) .0)
-    × ((s ≡ (operate file area bytes answer) .1) × (a ≡ (operate file area bytes answer) .2))
-
 abbrev pub Carried : Config → List ℕ → List ℕ → List ℕ → ℕ → List ℕ → List ℕ → Type 0
 Carried config area bytes answer r s a =
     (r ≡ (carried config area bytes answer) .0)
     × ((s ≡ (carried config area bytes answer) .1) × (a ≡ (carried config area bytes answer) .2))
 
 module _ (file area bytes answer : List ℕ) {l : Loaded} (e : l ≡ load file) where
-  pub file-refused : (l .answer ≡ 0 → ⊥) → Meant file area bytes answer (l .answer) area answer
+  pub file-refused : (l .answer ≡ 0 → ⊥) → Operated file area bytes answer (l .answer) area answer
   unfolding operate
   file-refused n = rw (← e) (go (l .answer) n)
     where
       go : (q : ℕ) → (q ≡ 0 → ⊥)
           → let o = outcome (orElse q (verdict (l .config) (readOperation bytes) area answer)) (l .config)
           ((readOperation bytes) .1) area answer in
-          (q ≡ o .0) × ((area ≡ o .1) × (answer ≡ o .2))
+          (q ≡ o .0) × (area ≡ o .1) × (answer ≡ o .2)
       go zero n = absurd (n refl)
-      go (suc q) n = (refl, (refl, refl))
+      go (suc q) n = (refl, refl, refl)
 
   pub file-accepted : l .answer ≡ 0 → {r : ℕ} {s a : List ℕ} → Carried (l .config) area bytes answer r s a
-      → Meant file area bytes answer r s a
+      → Operated file area bytes answer r s a
   unfolding operate carried
-  file-accepted z h = rw (← e, z) h
+  file-accepted z h = rw (← e, z) (h .0, h .1 .0, h .1 .1)
 
 -- questions 7 to 20
 module _ (config : Config) (room : ℕ) (area bytes answer : List ℕ) (k : room ≡ records config) where

@@ -10,12 +10,9 @@ use Rattle.model.specs.Config.{mostObjects}
 use Rattle.model.specs.ConfigFile.{load}
 use Rattle.model.specs.State.{roomFor, areaLength, layout, fresh}
 use Rattle.model.specs.Gate.{freshAnswer, freshAfter, makeFresh}
+use Rattle.model.specs.Programs.{Made}
 use Rattle.model.specs.declared.Config.{Config}
 use Rattle.model.specs.declared.Loaded.{Loaded}
-
--- the answer and the area are those of the definition
-abbrev pub Made : List ℕ → List ℕ → ℕ → List ℕ → Type 0
-Made file area r t = (r ≡ (makeFresh file area) .0) × (t ≡ (makeFresh file area) .1)
 
 module _ (file area : List ℕ) {l : Loaded} (e : l ≡ load file) where
   pub file-refused : (l .answer ≡ 0 → ⊥) → Made file area (l .answer) area

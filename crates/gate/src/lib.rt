@@ -6,7 +6,7 @@ mod transfers;
 
 ghost use mathlib.Core.Path.{_≡_};
 ghost use Rattle.model.specs.ConfigFile.{load};
-ghost use Rattle.model.specs.Gate.{makeFresh, operate};
+ghost use Rattle.model.specs.Programs.{Made, Operated};
 use model::CONTENT_BYTES;
 use model::MOST_ITEMS;
 use model::MOST_OBJECTS;
@@ -14,9 +14,9 @@ use state::RECORD_BYTES;
 use state::RECORDS_FROM;
 
 // The length of the state area, and what the answer area has at least.
-const AREA_BYTES: usize = RECORDS_FROM + RECORD_BYTES * (MOST_OBJECTS as usize);
+pub const AREA_BYTES: usize = RECORDS_FROM + RECORD_BYTES * (MOST_OBJECTS as usize);
 
-const ANSWER_BYTES: usize = CONTENT_BYTES * MOST_ITEMS;
+pub const ANSWER_BYTES: usize = CONTENT_BYTES * MOST_ITEMS;
 
 // Questions 1 to 6 of a configuration file: 0, or the number of the first that is answered with no.
 #[no_mangle]
@@ -30,8 +30,7 @@ pub extern "C" fn gate_load_check(line: &[u8]) -> u32
 // A fresh state in the area lent: questions 1 to 6, then 7. A refusal leaves the area as it was.
 #[no_mangle]
 pub extern "C" fn gate_fresh(line: &[u8], state: &mut [u8]) -> u32
-    ensures { λ r. ⌜ r ≡ (makeFresh (now (line .entry)) (now (state .entry))) .0 ⌝ }
-    ensures { λ _. ⌜ now (state .exit) ≡ (makeFresh (now (line .entry)) (now (state .entry))) .1 ⌝ }
+    ensures { λ r. ⌜ Made (now (line .entry)) (now (state .entry)) r (now (state .exit)) ⌝ }
 {
     let loaded = config::load(line);
     if loaded.answer != 0 {
@@ -51,13 +50,8 @@ pub extern "C" fn gate_fresh(line: &[u8], state: &mut [u8]) -> u32
 #[no_mangle]
 pub extern "C" fn gate_operate(line: &[u8], state: &mut [u8], rec: &[u8], answer: &mut [u8]) -> u32
     ensures { λ r.
-        ⌜ r ≡ (operate (now (line .entry)) (now (state .entry)) (now (rec .entry)) (now (answer .entry))) .0 ⌝ }
-    ensures { λ _.
-        ⌜ now (state .exit)
-        ≡ (operate (now (line .entry)) (now (state .entry)) (now (rec .entry)) (now (answer .entry))) .1 ⌝ }
-    ensures { λ _.
-        ⌜ now (answer .exit)
-        ≡ (operate (now (line .entry)) (now (state .entry)) (now (rec .entry)) (now (answer .entry))) .2 ⌝ }
+        ⌜ Operated (now (line .entry)) (now (state .entry)) (now (rec .entry)) (now (answer .entry)) r
+        (now (state .exit)) (now (answer .exit)) ⌝ }
 {
     let loaded = config::load(line);
     if loaded.answer != 0 {

@@ -30,3 +30,4 @@ pub mod Answers
 pub mod OfficeLaws
 pub mod AnswerRange
 pub mod OfficeLength
+pub mod Programs

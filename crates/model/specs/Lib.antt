@@ -11,4 +11,5 @@ pub mod Gate
 pub mod Trace
 pub mod Separation
 pub mod Office
+pub mod Programs
 pub mod Examples
