@@ -1,0 +1,83 @@
+// The office program's text, worked out over slices: a configuration file and a session in, rows out.
+mod page;
+mod rows;
+
+ghost use mathlib.Core.Path.{_≡_};
+ghost use lib.ListN.{take};
+ghost use Rattle.model.specs.Office.{longRow, lineRow, judgedText, reported};
+ghost use Rattle.report.specs.Page.{Put, Counts};
+use gate::ANSWER_BYTES;
+use gate::AREA_BYTES;
+use page::put;
+use page::put_decimal;
+use rows::put_rows;
+
+// How long `line.bin` and `session.bin` are at most.
+pub const MOST_FILE: usize = 4096;
+
+pub const MOST_SESSION: usize = 32768;
+
+// How long the text is at most: a row of nine bytes for each byte of a session, and `cut`.
+pub const MOST_TEXT: usize = 9 * MOST_SESSION + 4;
+
+// `long`: one of the files is too long.
+fn put_long(out: &mut [u8]) -> usize
+    ensures { λ r. ⌜ Put longRow 0 (now (out .entry)) r (now (out .exit)) ⌝ }
+{
+    let l = put(out, 0, b'l');
+    let o = put(out, l, b'o');
+    let n = put(out, o, b'n');
+    let g = put(out, n, b'g');
+    put(out, g, b'\n')
+}
+
+// `line` and the number of the question that refused the file.
+fn put_line(out: &mut [u8], refusal: u32) -> usize
+    ensures { λ r. ⌜ Put (lineRow refusal) 0 (now (out .entry)) r (now (out .exit)) ⌝ }
+{
+    let l = put(out, 0, b'l');
+    let i = put(out, l, b'i');
+    let n = put(out, i, b'n');
+    let e = put(out, n, b'e');
+    let s = put(out, e, b' ');
+    let d = put_decimal(out, s, refusal as usize);
+    put(out, d, b'\n')
+}
+
+// The rows of a session from the fresh state of an accepted file on.
+fn put_session(line: &[u8], session: &[u8], out: &mut [u8]) -> usize
+    ensures { λ r.
+        ⌜ Put (judgedText 0 (now (line .entry)) (now (session .entry))) 0 (now (out .entry)) r (now (out .exit)) ⌝ }
+{
+    let mut area = [0u8; AREA_BYTES];
+    let mut answer = [0u8; ANSWER_BYTES];
+    gate::gate_fresh(line, &mut area);
+    put_rows(line, session, &mut area, &mut answer, out)
+}
+
+// Puts down what the office program writes for these two files, as far as there is room, and answers how many bytes
+// that are. A file is given with at most one byte more than it may have.
+pub fn report(line: &[u8], session: &[u8], out: &mut [u8]) -> usize
+    ensures { λ r.
+        ⌜ Put (reported (now (line .entry)) (now (session .entry))) 0 (now (out .entry)) r (now (out .exit)) ⌝ }
+{
+    if MOST_FILE < line.len() {
+        return put_long(out);
+    }
+    if MOST_SESSION < session.len() {
+        return put_long(out);
+    }
+    let refusal = gate::gate_load_check(line);
+    if refusal != 0 {
+        return put_line(out, refusal);
+    }
+    put_session(line, session, out)
+}
+
+// The same in an area that has room for every text: the bytes answered are the whole of it.
+pub fn report_whole(line: &[u8], session: &[u8], out: &mut [u8; MOST_TEXT]) -> usize
+    ensures { λ r. ⌜ take r (now (out .exit)) ≡ reported (now (line .entry)) (now (session .entry)) ⌝ }
+    ensures { λ r. ⌜ Counts r (now (out .exit)) ⌝ }
+{
+    report(line, session, out)
+}
