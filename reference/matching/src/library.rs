@@ -1,0 +1,78 @@
+//! The proved library, called through its C interface (sorter_gate.h), with guards behind the areas that it may change.
+
+use reference::generate::{Call, Function};
+
+unsafe extern "C" {
+    fn gate_load_check(line: *const u8, line_len: usize) -> u32;
+    fn gate_fresh(line: *const u8, line_len: usize, state: *mut u8, state_len: usize) -> u32;
+    fn gate_operate(
+        line: *const u8,
+        line_len: usize,
+        state: *mut u8,
+        state_len: usize,
+        record: *const u8,
+        record_len: usize,
+        answer: *mut u8,
+        answer_len: usize,
+    ) -> u32;
+}
+
+/// What a call answered and left.
+#[derive(Clone, Debug, PartialEq, Eq)]
+pub struct Result {
+    pub number: u32,
+    pub state: Vec<u8>,
+    pub answer: Vec<u8>,
+    /// Whether the bytes before and behind the two areas are as they were.
+    pub guards_kept: bool,
+}
+
+const GUARD: [u8; 32] = [0xA7; 32];
+
+/// An area between guards.
+struct Guarded(Vec<u8>);
+
+impl Guarded {
+    fn new(area: &[u8]) -> Guarded {
+        Guarded([&GUARD, area, &GUARD].concat())
+    }
+
+    fn area(&mut self) -> &mut [u8] {
+        let end = self.0.len() - GUARD.len();
+        &mut self.0[GUARD.len()..end]
+    }
+
+    fn kept(&self) -> bool {
+        self.0.starts_with(&GUARD) && self.0.ends_with(&GUARD)
+    }
+}
+
+/// Calls the library on copies of the call's areas.
+pub fn run(call: &Call) -> Result {
+    let mut state = Guarded::new(&call.state);
+    let mut answer = Guarded::new(&call.answer);
+    let number = invoke(call, state.area(), answer.area());
+    let guards_kept = state.kept() && answer.kept();
+    Result { number, state: state.area().to_vec(), answer: answer.area().to_vec(), guards_kept }
+}
+
+fn invoke(call: &Call, state: &mut [u8], answer: &mut [u8]) -> u32 {
+    let (line, record) = (&call.line, &call.record);
+    // SAFETY: every pointer comes from a slice and is valid for its length, also at length 0; no two areas overlap.
+    unsafe {
+        match call.function {
+            Function::LoadCheck => gate_load_check(line.as_ptr(), line.len()),
+            Function::Fresh => gate_fresh(line.as_ptr(), line.len(), state.as_mut_ptr(), state.len()),
+            Function::Operate => gate_operate(
+                line.as_ptr(),
+                line.len(),
+                state.as_mut_ptr(),
+                state.len(),
+                record.as_ptr(),
+                record.len(),
+                answer.as_mut_ptr(),
+                answer.len(),
+            ),
+        }
+    }
+}

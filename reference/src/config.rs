@@ -1,0 +1,204 @@
+//! The configuration (document 01: line) and its file: questions 1 to 6, put in the order of the file's numbers.
+
+use crate::limits::{EDITION, MAX_DEVICES, MAX_DRIVERS, MAX_ENTRIES, MAX_OBJECTS, MAX_VALUES};
+use crate::varint::{Fault, Reader};
+use std::ops::RangeInclusive;
+
+/// What an object is.
+#[derive(Clone, Copy, Debug, PartialEq, Eq)]
+pub enum Kind {
+    /// 1, transfer descriptor: holds a value number.
+    Transfer,
+    /// 2, function descriptor: holds sixteen bytes.
+    Function,
+    /// 3, data: holds sixteen bytes.
+    Data,
+    /// 4, hardcoded descriptor (document 01: hard-wired descriptor): holds a value number that never changes.
+    Hardcoded,
+}
+
+impl Kind {
+    /// A descriptor holds a value number: kind 1 or 4.
+    pub fn is_descriptor(self) -> bool {
+        matches!(self, Kind::Transfer | Kind::Hardcoded)
+    }
+
+    pub fn number(self) -> usize {
+        match self {
+            Kind::Transfer => 1,
+            Kind::Function => 2,
+            Kind::Data => 3,
+            Kind::Hardcoded => 4,
+        }
+    }
+
+    fn from_number(number: usize) -> Self {
+        match number {
+            1 => Kind::Transfer,
+            2 => Kind::Function,
+            3 => Kind::Data,
+            _ => Kind::Hardcoded,
+        }
+    }
+}
+
+/// Whose an object is. Drivers and devices (document 01: cards) count from 1.
+#[derive(Clone, Copy, Debug, PartialEq, Eq)]
+pub enum Owner {
+    External,
+    Driver(usize),
+    Device(usize),
+}
+
+#[derive(Clone, Copy, Debug, PartialEq, Eq)]
+pub struct Object {
+    pub kind: Kind,
+    pub owner: Owner,
+}
+
+/// A transfer entry of a descriptor value (document 01: entry).
+#[derive(Clone, Copy, Debug, PartialEq, Eq)]
+pub struct Entry {
+    pub object: usize,
+    /// 1 read, 2 write, 3 both.
+    pub mode: usize,
+    /// The stored value (document 01: put value): what a write puts into a kind 1 object, else 0.
+    pub stored: usize,
+}
+
+impl Entry {
+    pub fn reads(&self) -> bool {
+        self.mode == 1 || self.mode == 3
+    }
+
+    pub fn writes(&self) -> bool {
+        self.mode == 2 || self.mode == 3
+    }
+}
+
+/// A loaded configuration. Number n stands at place n - 1 of each list; value 0 stands in none.
+#[derive(Clone, Debug, Default, PartialEq, Eq)]
+pub struct Config {
+    /// D.
+    pub drivers: usize,
+    /// The objects 1 to N.
+    pub objects: Vec<Object>,
+    /// The value number of each device's hardcoded descriptor, for devices 1 to V.
+    pub hardcoded: Vec<usize>,
+    /// The descriptor values 1 to K.
+    pub values: Vec<Vec<Entry>>,
+}
+
+impl Config {
+    pub fn devices(&self) -> usize {
+        self.hardcoded.len()
+    }
+
+    pub fn object(&self, number: usize) -> Object {
+        self.objects[number - 1]
+    }
+
+    pub fn kind(&self, object: usize) -> Kind {
+        self.object(object).kind
+    }
+
+    /// The entries of a value; value 0 has none.
+    pub fn value(&self, number: usize) -> &[Entry] {
+        if number == 0 { &[] } else { &self.values[number - 1] }
+    }
+
+    pub fn owned_by(&self, owner: Owner) -> Vec<usize> {
+        (1..=self.objects.len()).filter(|number| self.object(*number).owner == owner).collect()
+    }
+
+    /// The device's hardcoded descriptor; question 5 says that there is exactly one.
+    pub fn hardcoded_object(&self, device: usize) -> usize {
+        let own = Object { kind: Kind::Hardcoded, owner: Owner::Device(device) };
+        self.objects.iter().position(|object| *object == own).map_or(0, |place| place + 1)
+    }
+}
+
+/// Loads a configuration file, or gives the number of the first question that is answered with no.
+pub fn load(line: &[u8]) -> Result<Config, u8> {
+    let mut reader = Reader::new(line);
+    let config = read_config(&mut reader)?;
+    if !reader.at_end() {
+        return Err(4);
+    }
+    if !hardcoded_owners_fit(&config) {
+        return Err(5);
+    }
+    if !hardcoded_values_fit(&config) {
+        return Err(6);
+    }
+    Ok(config)
+}
+
+/// A number and the three questions put to it: 1, 2 and 3.
+fn field(reader: &mut Reader, range: RangeInclusive<usize>) -> Result<usize, u8> {
+    let number = reader.number().map_err(|fault| match fault {
+        Fault::Cut => 1,
+        Fault::Form => 2,
+    })?;
+    if range.contains(&number) { Ok(number) } else { Err(3) }
+}
+
+fn read_config(reader: &mut Reader) -> Result<Config, u8> {
+    field(reader, EDITION..=EDITION)?;
+    let drivers = field(reader, 0..=MAX_DRIVERS)?;
+    let devices = field(reader, 0..=MAX_DEVICES)?;
+    let objects = field(reader, 0..=MAX_OBJECTS)?;
+    let values = field(reader, 0..=MAX_VALUES)?;
+    let mut config = Config { drivers, ..Config::default() };
+    for _ in 0..objects {
+        config.objects.push(read_object(reader, drivers, devices)?);
+    }
+    for _ in 0..devices {
+        config.hardcoded.push(field(reader, 0..=values)?);
+    }
+    for _ in 0..values {
+        let count = field(reader, 0..=MAX_ENTRIES)?;
+        let entries: Result<Vec<Entry>, u8> = (0..count).map(|_| read_entry(reader, &config, values)).collect();
+        config.values.push(entries?);
+    }
+    Ok(config)
+}
+
+fn read_object(reader: &mut Reader, drivers: usize, devices: usize) -> Result<Object, u8> {
+    let kind = Kind::from_number(field(reader, 1..=4)?);
+    let owner = match field(reader, 0..=2)? {
+        0 => field(reader, 0..=0).map(|_| Owner::External)?,
+        1 => Owner::Driver(field(reader, 1..=drivers)?),
+        _ => Owner::Device(field(reader, 1..=devices)?),
+    };
+    Ok(Object { kind, owner })
+}
+
+fn read_entry(reader: &mut Reader, config: &Config, values: usize) -> Result<Entry, u8> {
+    let object = field(reader, 1..=config.objects.len())?;
+    let mode = field(reader, 1..=3)?;
+    let takes_value = config.kind(object) == Kind::Transfer && mode != 1;
+    let stored = field(reader, 0..=if takes_value { values } else { 0 })?;
+    Ok(Entry { object, mode, stored })
+}
+
+/// Question 5: each device has exactly one kind 4 object, and each kind 4 object a device as owner.
+fn hardcoded_owners_fit(config: &Config) -> bool {
+    let owners: Vec<Owner> =
+        config.objects.iter().filter(|object| object.kind == Kind::Hardcoded).map(|object| object.owner).collect();
+    let one_each = (1..=config.devices())
+        .all(|device| owners.iter().filter(|owner| **owner == Owner::Device(device)).count() == 1);
+    one_each && owners.iter().all(|owner| matches!(owner, Owner::Device(_)))
+}
+
+/// Question 6: each hardcoded value names only its own device's objects, none of kind 4, and kind 1 by mode 1 only.
+fn hardcoded_values_fit(config: &Config) -> bool {
+    (1..=config.devices()).all(|device| {
+        config.value(config.hardcoded[device - 1]).iter().all(|entry| {
+            let object = config.object(entry.object);
+            object.owner == Owner::Device(device)
+                && object.kind != Kind::Hardcoded
+                && (object.kind != Kind::Transfer || entry.mode == 1)
+        })
+    })
+}

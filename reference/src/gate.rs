@@ -1,0 +1,70 @@
+//! The three functions of the gate, as the C interface has them: load check, fresh, operate.
+
+use crate::closure::{Search, closure};
+use crate::config::{Config, load};
+use crate::effect;
+use crate::limits::{ANSWER_BYTES, CONTENT_BYTES, STATE_BYTES};
+use crate::operation;
+use crate::questions::{Case, refusal};
+use crate::state::{Contents, State, well_formed};
+
+/// Puts questions 1 to 6 to a configuration file.
+pub fn load_check(line: &[u8]) -> u32 {
+    load(line).err().map_or(0, u32::from)
+}
+
+/// Makes the fresh state: questions 1 to 6, then 7. At any number but 0 the area is as it was.
+pub fn fresh(line: &[u8], state: &mut [u8]) -> u32 {
+    match load(line) {
+        Err(number) => u32::from(number),
+        Ok(_) if state.len() != STATE_BYTES => 7,
+        Ok(config) => {
+            state.copy_from_slice(&State::fresh(&config).to_bytes());
+            0
+        }
+    }
+}
+
+/// Judges one operation and, at 0, carries it out: questions 1 to 20. At any other number both areas are as they were.
+pub fn operate(line: &[u8], state: &mut [u8], record: &[u8], answer: &mut [u8]) -> u32 {
+    operate_with(closure, line, state, record, answer)
+}
+
+/// The same with a search of the caller's choice.
+pub fn operate_with(search: Search, line: &[u8], state: &mut [u8], record: &[u8], answer: &mut [u8]) -> u32 {
+    match judge_areas(search, line, state, record, answer.len()) {
+        Err(number) => u32::from(number),
+        Ok((next, answers)) => {
+            state.copy_from_slice(&next.to_bytes());
+            for (part, contents) in answer.chunks_exact_mut(CONTENT_BYTES).zip(&answers) {
+                part.copy_from_slice(contents);
+            }
+            0
+        }
+    }
+}
+
+/// The state that follows and the contents read, or the first refusal.
+type Judgement = Result<(State, Vec<Contents>), u8>;
+
+fn judge_areas(search: Search, line: &[u8], state: &[u8], record: &[u8], answer_bytes: usize) -> Judgement {
+    let config = load(line)?;
+    let state = State::from_bytes(state).ok_or(7)?;
+    if answer_bytes < ANSWER_BYTES {
+        return Err(8);
+    }
+    if !well_formed(&config, &state) {
+        return Err(9);
+    }
+    judge(search, &config, &state, record)
+}
+
+/// Questions 10 to 20, for a well formed state.
+pub fn judge(search: Search, config: &Config, state: &State, record: &[u8]) -> Judgement {
+    let operation = operation::read(record).ok_or(10)?;
+    let case = Case { config, state, operation: &operation, search };
+    match refusal(&case) {
+        Some(number) => Err(number),
+        None => Ok((effect::apply(config, state, &operation), effect::answers(state, &operation))),
+    }
+}

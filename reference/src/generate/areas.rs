@@ -1,0 +1,146 @@
+//! State areas that no list of calls makes: broken in one place for each rule of question 9, and well formed ones at
+//! random.
+
+use super::rng::Rng;
+use crate::config::{Config, Kind, Owner};
+use crate::limits::{MAX_DEVICES, MAX_DRIVERS, MAX_OBJECTS, MAX_PARTITION, STATE_BYTES};
+use crate::state::{EXISTING, NONE, State, holding};
+
+/// How many ways `broken_by` knows.
+pub const RULES: usize = 15;
+
+/// The state with one byte, or one record, that likely breaks a rule of question 9.
+pub fn broken(rng: &mut Rng, config: &Config, state: &State) -> Vec<u8> {
+    let rule = rng.below(RULES);
+    let mut state = state.clone();
+    broken_by(rng, config, &mut state, rule);
+    let mut area = state.to_bytes();
+    if rule == RULES - 1 {
+        area[rng.below(STATE_BYTES)] = rng.below(256) as u8;
+    }
+    area
+}
+
+fn broken_by(rng: &mut Rng, config: &Config, state: &mut State, rule: usize) {
+    let object = rng.below(config.objects.len());
+    let wrong = wrong_partition(rng, state);
+    match rule {
+        0 => state.status[0] = rng.between(1, 3) as u8,
+        1 => state.status[rng.between(1, MAX_PARTITION)] = [3, 4, 255][rng.below(3)],
+        2 => state.drivers[rng.below(config.drivers)] = wrong,
+        3 => state.devices[rng.below(config.devices())] = wrong,
+        4 => state.objects[object].partition = wrong,
+        5 => state.objects[object].partition = some_partition(rng, state),
+        6 => absent(rng, &mut state.drivers, config.drivers, MAX_DRIVERS),
+        7 => absent(rng, &mut state.devices, config.devices(), MAX_DEVICES),
+        8 if config.objects.len() < MAX_OBJECTS => {
+            let place = rng.between(config.objects.len(), MAX_OBJECTS - 1);
+            state.objects[place].partition = some_partition(rng, state);
+        }
+        9 if config.objects.len() < MAX_OBJECTS => {
+            let place = rng.between(config.objects.len(), MAX_OBJECTS - 1);
+            state.objects[place].contents[rng.below(16)] = rng.between(1, 255) as u8;
+        }
+        10 => descriptor(rng, config, state, |contents, rng| contents[rng.between(1, 15)] = rng.between(1, 255) as u8),
+        11 => {
+            let beyond = config.values.len() + 1;
+            descriptor(rng, config, state, |contents, rng| contents[0] = rng.between(beyond, beyond + 2) as u8);
+        }
+        12 => other_hardcoded_value(rng, config, state),
+        13 => {
+            let used: Vec<usize> = (1..=MAX_PARTITION).filter(|zone| state.status[*zone] == EXISTING).collect();
+            let zone = rng.pick(&used).unwrap_or(1);
+            state.status[zone] = [0, 2, 3][rng.below(3)];
+        }
+        _ => (),
+    }
+}
+
+/// Puts any value of the file into a hardcoded descriptor.
+fn other_hardcoded_value(rng: &mut Rng, config: &Config, state: &mut State) {
+    let devices: Vec<usize> = (1..=config.devices()).collect();
+    if let Some(device) = rng.pick(&devices) {
+        let value = holding(rng.between(0, config.values.len()));
+        state.objects[config.hardcoded_object(device) - 1].contents = value;
+    }
+}
+
+/// A partition byte that names no existing partition.
+fn wrong_partition(rng: &mut Rng, state: &State) -> u8 {
+    let gone: Vec<u8> = (1..=63).filter(|zone| state.status[usize::from(*zone)] != EXISTING).collect();
+    match rng.below(3) {
+        0 => [64, 128, 255][rng.below(3)],
+        _ => rng.pick(&gone).unwrap_or(64),
+    }
+}
+
+/// 0 or an existing partition.
+fn some_partition(rng: &mut Rng, state: &State) -> u8 {
+    let mut zones: Vec<u8> = (1..=63).filter(|zone| state.status[usize::from(*zone)] == EXISTING).collect();
+    zones.push(NONE);
+    rng.pick(&zones).unwrap_or(NONE)
+}
+
+/// A byte other than 0 for one that is not there.
+fn absent(rng: &mut Rng, bytes: &mut [u8], count: usize, room: usize) {
+    if count < room {
+        bytes[rng.between(count, room - 1)] = rng.between(1, 63) as u8;
+    }
+}
+
+/// Changes the contents of a descriptor.
+fn descriptor(rng: &mut Rng, config: &Config, state: &mut State, change: impl Fn(&mut [u8; 16], &mut Rng)) {
+    let all: Vec<usize> = (1..=config.objects.len()).filter(|object| config.kind(*object).is_descriptor()).collect();
+    if let Some(object) = rng.pick(&all) {
+        change(&mut state.objects[object - 1].contents, rng);
+    }
+}
+
+/// Any well formed state: partitions and contents at random.
+pub fn scrambled(rng: &mut Rng, config: &Config) -> State {
+    let mut state = State::fresh(config);
+    for _ in 0..rng.between(1, 5) {
+        state.status[rng.between(1, MAX_PARTITION)] = [1, 1, 1, 2][rng.below(4)];
+    }
+    let inactive = rng.below(30);
+    let place = |rng: &mut Rng, state: &State| {
+        if rng.percent(inactive) { NONE } else { some_partition(rng, state) }
+    };
+    (0..config.drivers).for_each(|driver| state.drivers[driver] = place(rng, &state));
+    (0..config.devices()).for_each(|device| state.devices[device] = place(rng, &state));
+    let few = rng.percent(60);
+    let read = |object: usize| config.hardcoded.iter().flat_map(|v| config.value(*v)).any(|e| e.object == object);
+    for number in 1..=config.objects.len() {
+        let object = config.object(number);
+        let partition = match object.owner {
+            Owner::External => place(rng, &state),
+            Owner::Driver(driver) => state.driver(driver),
+            Owner::Device(device) => state.device(device),
+        };
+        state.objects[number - 1].partition = partition;
+        match object.kind {
+            Kind::Transfer if few && rng.percent(if read(number) { 10 } else { 80 }) => (),
+            Kind::Transfer => state.objects[number - 1].contents = holding(rng.between(0, config.values.len())),
+            Kind::Function | Kind::Data => state.objects[number - 1].contents = rng.contents(),
+            Kind::Hardcoded => (),
+        }
+    }
+    if rng.percent(40) {
+        spy(rng, config, &mut state);
+    }
+    state
+}
+
+/// Lets a device read another's hardcoded descriptor, which no list of calls does: a value with such an entry is put
+/// where a hardcoded value reads it.
+fn spy(rng: &mut Rng, config: &Config, state: &mut State) {
+    let named = config.hardcoded.iter().flat_map(|value| config.value(*value));
+    let read: Vec<usize> = named.map(|entry| entry.object).filter(|o| config.kind(*o) == Kind::Transfer).collect();
+    let spies = |value: &usize| {
+        config.value(*value).iter().any(|entry| entry.reads() && config.kind(entry.object) == Kind::Hardcoded)
+    };
+    let values: Vec<usize> = (1..=config.values.len()).filter(spies).collect();
+    if let (Some(object), Some(value)) = (rng.pick(&read), rng.pick(&values)) {
+        state.objects[object - 1].contents = holding(value);
+    }
+}

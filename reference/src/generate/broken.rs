@@ -1,0 +1,188 @@
+//! Malformed input: configuration files that break questions 1 to 6, records that break question 10.
+
+use super::rng::Rng;
+use super::worlds::World;
+use crate::config::{Config, Entry, Kind, Owner, load};
+use crate::limits::MAX_NUMBER;
+use crate::operation::Operation;
+use crate::tokens::{self, Token};
+use crate::varint;
+
+/// How often a malformed file is made anew when it does not get the number that is wanted.
+const TRIES: usize = 6;
+
+/// A form of a number that question 2 refuses: four bytes, not the shortest, or above 65,535.
+pub fn bad_number(rng: &mut Rng, number: usize) -> Vec<u8> {
+    let mut bytes = Vec::new();
+    match rng.below(6) {
+        0 => {
+            varint::write(number, &mut bytes);
+            let last = bytes.len() - 1;
+            bytes[last] |= 128;
+            bytes.push(0);
+        }
+        1 => bytes.extend([128 + (number % 128) as u8, 128, 0]),
+        2 => bytes.extend([128 + (number % 128) as u8, 128, 128, rng.between(0, 1) as u8]),
+        3 => varint::write(MAX_NUMBER + 1, &mut bytes),
+        4 => varint::write(rng.between(MAX_NUMBER + 1, 2_097_151), &mut bytes),
+        _ => varint::write(rng.between(2_097_152, 1 << 40), &mut bytes),
+    }
+    bytes
+}
+
+/// A number without a last byte, at the end of what there is.
+fn unfinished(rng: &mut Rng) -> Vec<u8> {
+    (0..rng.between(1, 6)).map(|_| 128 + rng.below(128) as u8).collect()
+}
+
+/// A file that question `number`, 1 to 6, refuses if one of a few attempts does it; else the last attempt.
+pub fn line(rng: &mut Rng, world: &World, number: u8) -> Vec<u8> {
+    let mut line = attempt(rng, world, number);
+    for _ in 0..TRIES {
+        if load(&line).err() == Some(number) {
+            break;
+        }
+        line = attempt(rng, world, number);
+    }
+    line
+}
+
+fn attempt(rng: &mut Rng, world: &World, number: u8) -> Vec<u8> {
+    let tokens = tokens::of_config(&world.config);
+    let place = rng.below(tokens.len());
+    match number {
+        1 => {
+            let mut bytes = tokens::encode(&tokens[..place]);
+            if rng.percent(50) {
+                bytes.extend(unfinished(rng));
+            }
+            bytes
+        }
+        2 => with_bad_number(rng, tokens, place),
+        3 => out_of_range(rng, tokens, place),
+        4 => {
+            let count = rng.between(1, 5);
+            [world.line.clone(), rng.bytes(count)].concat()
+        }
+        5 => changed(&world.config, |config| break_owners(rng, config)),
+        _ => changed(&world.config, |config| break_hardcoded(rng, config)),
+    }
+}
+
+fn with_bad_number(rng: &mut Rng, mut tokens: Vec<Token>, place: usize) -> Vec<u8> {
+    let number = match tokens[place] {
+        Token::Number(number) => number,
+        Token::Bytes(_) => 0,
+    };
+    tokens[place] = Token::Bytes(bad_number(rng, number));
+    tokens::encode(&tokens)
+}
+
+/// Sets one number to what its field, or most fields, cannot be.
+fn out_of_range(rng: &mut Rng, mut tokens: Vec<Token>, place: usize) -> Vec<u8> {
+    let place = if rng.percent(40) { place.min(rng.below(8)) } else { place };
+    let limits = [0, 2, 4, 5, 7, 17, 48, 97, 128, 65_535];
+    let number = match (rng.below(3), &tokens[place]) {
+        (0, Token::Number(number)) => *number + 1,
+        (1, _) => limits[rng.below(limits.len())],
+        _ => rng.between(0, 100),
+    };
+    tokens[place] = Token::Number(number);
+    tokens::encode(&tokens)
+}
+
+fn changed(config: &Config, mut change: impl FnMut(&mut Config)) -> Vec<u8> {
+    let mut config = config.clone();
+    change(&mut config);
+    tokens::encode(&tokens::of_config(&config))
+}
+
+/// A device with two kind 4 objects or none, or a kind 4 object of a driver or of nobody.
+fn break_owners(rng: &mut Rng, config: &mut Config) {
+    let place = rng.below(config.objects.len());
+    let device = rng.between(1, config.devices());
+    let Some(object) = config.objects.get_mut(place) else {
+        return;
+    };
+    match rng.below(4) {
+        0 if object.kind == Kind::Hardcoded => object.kind = Kind::Data,
+        0 | 1 => object.kind = Kind::Hardcoded,
+        2 => object.owner = Owner::External,
+        _ => object.owner = Owner::Device(device),
+    }
+    // Entries keep to their fields' ranges, so that no earlier question refuses.
+    for entry in config.values.iter_mut().flatten().filter(|entry| entry.object == place + 1) {
+        entry.stored = 0;
+    }
+}
+
+/// A hardcoded value that names what it may not, or another value in its place.
+fn break_hardcoded(rng: &mut Rng, config: &mut Config) {
+    let device = rng.below(config.devices());
+    let object = rng.between(1, config.objects.len());
+    if config.devices() == 0 || config.values.is_empty() {
+        return;
+    }
+    let value = config.hardcoded[device];
+    if value == 0 || rng.percent(40) {
+        config.hardcoded[device] = rng.between(1, config.values.len());
+        return;
+    }
+    let entries = &mut config.values[value - 1];
+    match rng.below(2) {
+        0 if entries.len() < 6 => entries.push(Entry { object, mode: 1, stored: 0 }),
+        _ => entries.iter_mut().for_each(|entry| entry.mode = rng.between(1, 3)),
+    }
+}
+
+/// A record that cannot be read, made from one that can (question 10).
+pub fn record(rng: &mut Rng, operation: &Operation) -> Vec<u8> {
+    let mut tokens = tokens::of_operation(operation);
+    let whole = tokens::encode(&tokens);
+    let place = rng.below(tokens.len());
+    match rng.below(7) {
+        0 => whole[..rng.below(whole.len())].to_vec(),
+        1 => [whole, vec![rng.below(256) as u8]].concat(),
+        2 => with_bad_number(rng, tokens, place),
+        3 => {
+            tokens[0] = Token::Number([0, 13, 14, 128, 65_535][rng.below(5)]);
+            tokens::encode(&tokens)
+        }
+        4 => with_bad_count(rng, operation, tokens),
+        5 => with_bad_form(rng, operation, tokens),
+        _ => [whole[..rng.below(whole.len())].to_vec(), unfinished(rng)].concat(),
+    }
+}
+
+/// The third token of every operation with a count is the count.
+fn with_bad_count(rng: &mut Rng, operation: &Operation, mut tokens: Vec<Token>) -> Vec<u8> {
+    let count = tokens.len();
+    let has_count = !operation.targets().is_empty() || !operation.sources().is_empty();
+    if has_count && count > 3 {
+        let Token::Number(now) = tokens[2] else {
+            return tokens::encode(&tokens);
+        };
+        tokens[2] = Token::Number([0, 9, now + 1, now - 1, 128][rng.below(5)]);
+        // No part, or nine whole ones: the count is the only fault.
+        if tokens[2] == Token::Number(0) {
+            tokens.truncate(3);
+        } else if tokens[2] == Token::Number(9) {
+            let part: Vec<Token> = tokens[3..3 + (count - 3) / now].to_vec();
+            (now..9).for_each(|_| tokens.extend(part.clone()));
+        }
+    } else {
+        tokens.push(Token::Number(0));
+    }
+    tokens::encode(&tokens)
+}
+
+/// A form of 2 or more in one of the items.
+fn with_bad_form(rng: &mut Rng, operation: &Operation, mut tokens: Vec<Token>) -> Vec<u8> {
+    if let Operation::Write { items, .. } = operation {
+        let item = rng.below(items.len());
+        tokens[3 + item * 3 + 1] = Token::Number([2, 3, 128][rng.below(3)]);
+    } else {
+        tokens.pop();
+    }
+    tokens::encode(&tokens)
+}

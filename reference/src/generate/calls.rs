@@ -1,0 +1,141 @@
+//! A stream of calls of the three functions: sessions with the state carried on, and between their calls others with
+//! malformed files, areas and records, which carry nothing on.
+
+use super::areas;
+use super::broken;
+use super::records::{self, Want};
+use super::rng::Rng;
+use super::worlds::{Size, World, world};
+use crate::limits::{ANSWER_BYTES, STATE_BYTES};
+use crate::state::State;
+use std::collections::VecDeque;
+
+#[derive(Clone, Copy, Debug, PartialEq, Eq)]
+pub enum Function {
+    LoadCheck,
+    Fresh,
+    Operate,
+}
+
+/// One call with all that it is given.
+#[derive(Clone, Debug, PartialEq, Eq)]
+pub struct Call {
+    pub function: Function,
+    pub line: Vec<u8>,
+    pub state: Vec<u8>,
+    pub record: Vec<u8>,
+    pub answer: Vec<u8>,
+    /// Whether the state that the call leaves is the session's from then on.
+    pub carried: bool,
+}
+
+/// The stream.
+#[derive(Clone, Debug)]
+pub struct Calls {
+    rng: Rng,
+    world: World,
+    state: Vec<u8>,
+    queue: VecDeque<Call>,
+    operations: usize,
+    pub sessions: u64,
+}
+
+impl Calls {
+    pub fn new(seed: u64) -> Calls {
+        let mut rng = Rng::part(seed, 0);
+        let world = world(&mut rng, Size::Tiny);
+        Calls { rng, world, state: Vec::new(), queue: VecDeque::new(), operations: 0, sessions: 0 }
+    }
+
+    /// The next call; the state that it leaves comes back by `carry`.
+    pub fn next_call(&mut self) -> Call {
+        if self.queue.is_empty() && self.operations == 0 {
+            self.begin();
+        }
+        match self.queue.pop_front() {
+            Some(call) => call,
+            None => {
+                self.operations -= 1;
+                self.operation()
+            }
+        }
+    }
+
+    pub fn carry(&mut self, call: &Call, state: &[u8]) {
+        if call.carried {
+            self.state = state.to_vec();
+        }
+    }
+
+    /// A new session: the file is checked, broken and made fresh.
+    fn begin(&mut self) {
+        self.sessions += 1;
+        let size = Size::any(&mut self.rng);
+        self.world = world(&mut self.rng, size);
+        self.operations = self.rng.between(5, 70) + self.world.config.objects.len();
+        let line = self.world.line.clone();
+        let check = self.call(Function::LoadCheck, line.clone());
+        self.queue.push_back(check);
+        for _ in 0..self.rng.between(0, 3) {
+            let number = self.rng.between(1, 6) as u8;
+            let line = broken::line(&mut self.rng, &self.world, number);
+            let function = [Function::LoadCheck, Function::Fresh, Function::Operate][self.rng.below(3)];
+            let call = self.call(function, line);
+            self.queue.push_back(call);
+        }
+        if self.rng.percent(25) {
+            let mut call = self.call(Function::Fresh, line.clone());
+            call.state = self.wrong_length(&call.state);
+            self.queue.push_back(call);
+        }
+        let fresh = Call { carried: true, ..self.call(Function::Fresh, line) };
+        self.queue.push_back(fresh);
+    }
+
+    /// A call with areas of the right length and any bytes.
+    fn call(&mut self, function: Function, line: Vec<u8>) -> Call {
+        let state = self.rng.bytes(STATE_BYTES);
+        let count = self.rng.below(12);
+        let record = self.rng.bytes(count);
+        Call { function, line, state, record, answer: self.answer(), carried: false }
+    }
+
+    fn answer(&mut self) -> Vec<u8> {
+        let length = if self.rng.percent(70) { ANSWER_BYTES } else { self.rng.between(ANSWER_BYTES, 200) };
+        self.rng.bytes(length)
+    }
+
+    fn wrong_length(&mut self, area: &[u8]) -> Vec<u8> {
+        let mut area = area.to_vec();
+        let lengths = [0, 1, STATE_BYTES - 1, STATE_BYTES + 1, 2 * STATE_BYTES, self.rng.below(STATE_BYTES)];
+        area.resize(lengths[self.rng.below(lengths.len())], 0);
+        area
+    }
+
+    /// An operation: the session's next one, or one beside it.
+    fn operation(&mut self) -> Call {
+        let area = self.state.clone();
+        let state = State::from_bytes(&area).unwrap_or_else(|| State::fresh(&self.world.config));
+        let want = Want::any(&mut self.rng);
+        let record = records::record(&mut self.rng, &self.world, &state, want);
+        let line = self.world.line.clone();
+        let answer = self.answer();
+        let mut call = Call { function: Function::Operate, line, state: area, record, answer, carried: false };
+        match self.rng.weighted(&[80, 3, 3, 6, 8]) {
+            0 => call.carried = true,
+            1 => call.state = self.wrong_length(&call.state),
+            2 => {
+                let length = [0, 1, 16, ANSWER_BYTES - 1][self.rng.below(4)];
+                call.answer = self.rng.bytes(length);
+            }
+            3 => call.state = areas::broken(&mut self.rng, &self.world.config, &state),
+            _ => {
+                let state = areas::scrambled(&mut self.rng, &self.world.config);
+                let want = [Want::Accepted, Want::Refused(18), Want::Refused(20), want][self.rng.below(4)];
+                call.state = state.to_bytes();
+                call.record = records::record(&mut self.rng, &self.world, &state, want);
+            }
+        }
+        call
+    }
+}

@@ -1,0 +1,20 @@
+//! The generator, deterministic by seed: configurations of every size, sessions that go deep, near misses and malformed
+//! input of every kind. Only its own random source, the papers' limits and the reference's judgement go into it.
+
+pub mod areas;
+pub mod broken;
+pub mod calls;
+pub mod likely;
+pub mod names;
+pub mod records;
+pub mod refused;
+pub mod rng;
+pub mod sessions;
+pub mod stored;
+pub mod worlds;
+
+pub use calls::{Call, Calls, Function};
+pub use records::Want;
+pub use rng::Rng;
+pub use sessions::Folder;
+pub use worlds::{Size, World};

@@ -1,0 +1,75 @@
+//! The next record of a session, chosen by the state that the reference keeps beside it: likely accepted, likely
+//! refused by a chosen number, or random.
+
+use super::broken;
+use super::likely::Scene;
+use super::rng::Rng;
+use super::worlds::World;
+use crate::closure::closure;
+use crate::gate::judge;
+use crate::state::State;
+
+/// How often a proposal is made anew when it does not get the number that is wanted.
+const TRIES: usize = 12;
+
+/// The refusals that a record can get; those that need a search stand here more than once.
+const REFUSALS: [u8; 15] = [10, 11, 12, 13, 14, 15, 16, 17, 18, 18, 19, 19, 19, 20, 20];
+
+/// What a record is to be.
+#[derive(Clone, Copy, Debug, PartialEq, Eq)]
+pub enum Want {
+    Accepted,
+    Refused(u8),
+    Random,
+}
+
+impl Want {
+    /// 60 in 100 accepted, 28 refused by a number, 12 random.
+    pub fn any(rng: &mut Rng) -> Want {
+        match rng.weighted(&[60, 28, 12]) {
+            0 => Want::Accepted,
+            1 => Want::Refused(REFUSALS[rng.below(REFUSALS.len())]),
+            _ => Want::Random,
+        }
+    }
+}
+
+/// A record for this state.
+pub fn record(rng: &mut Rng, world: &World, state: &State, want: Want) -> Vec<u8> {
+    let wanted = match want {
+        Want::Accepted => 0,
+        Want::Refused(number) => number,
+        Want::Random => return random(rng, world, state),
+    };
+    let mut proposal = Vec::new();
+    for _ in 0..TRIES {
+        proposal = proposed(rng, world, state, wanted);
+        let number = judge(closure, &world.config, state, &proposal).err().unwrap_or(0);
+        if number == wanted {
+            break;
+        }
+    }
+    proposal
+}
+
+fn proposed(rng: &mut Rng, world: &World, state: &State, wanted: u8) -> Vec<u8> {
+    let mut scene = Scene { rng, world, state };
+    match wanted {
+        0 => scene.likely().to_bytes(),
+        10 => {
+            let operation = if scene.rng.percent(60) { scene.likely() } else { scene.anything() };
+            broken::record(scene.rng, &operation)
+        }
+        _ => scene.likely_refused(wanted).to_bytes(),
+    }
+}
+
+fn random(rng: &mut Rng, world: &World, state: &State) -> Vec<u8> {
+    if rng.percent(15) {
+        let count = rng.below(20);
+        let mut bytes = rng.bytes(count);
+        bytes.iter_mut().for_each(|byte| *byte &= 15);
+        return bytes;
+    }
+    Scene { rng, world, state }.anything().to_bytes()
+}

@@ -1,0 +1,78 @@
+//! Sessions of the office program: records behind their lengths, carried on from the fresh state, with cut endings.
+
+use super::broken;
+use super::records::{self, Want};
+use super::rng::Rng;
+use super::worlds::{Size, World, world};
+use crate::closure::closure;
+use crate::gate::judge;
+use crate::state::State;
+use crate::varint;
+
+/// A folder of the office program: its two files.
+#[derive(Clone, Debug, PartialEq, Eq)]
+pub struct Folder {
+    pub line: Vec<u8>,
+    pub session: Vec<u8>,
+}
+
+/// How a session ends.
+#[derive(Clone, Copy, Debug, PartialEq, Eq)]
+pub enum End {
+    Whole,
+    /// In a number or record that is cut.
+    Cut,
+}
+
+/// A folder of this size with about `records` records; `focus` is a number to see often.
+pub fn folder(rng: &mut Rng, size: Size, records: usize, focus: Option<u8>) -> Folder {
+    let world = world(rng, size);
+    let line = match focus {
+        Some(number @ 1..=6) => broken::line(rng, &world, number),
+        _ => world.line.clone(),
+    };
+    let end = if rng.percent(8) { End::Cut } else { End::Whole };
+    let session = session(rng, &world, records, focus, end);
+    Folder { line, session }
+}
+
+/// A session over a world.
+pub fn session(rng: &mut Rng, world: &World, records: usize, focus: Option<u8>, end: End) -> Vec<u8> {
+    let mut state = State::fresh(&world.config);
+    let mut out = Vec::new();
+    for place in 0..records {
+        let want = match focus {
+            Some(number @ 10..=20) if place * 2 > records && rng.percent(30) => Want::Refused(number),
+            _ => Want::any(rng),
+        };
+        let record = records::record(rng, world, &state, want);
+        if let Ok((next, _)) = judge(closure, &world.config, &state, &record) {
+            state = next;
+        }
+        varint::write(record.len(), &mut out);
+        out.extend(record);
+    }
+    if end == End::Cut {
+        out.extend(cut_end(rng));
+    }
+    out
+}
+
+/// A length without a last byte, in a bad form, or larger than what follows.
+pub fn cut_end(rng: &mut Rng) -> Vec<u8> {
+    let length = [1, 2, 127, 128, 300, 65_535][rng.below(6)];
+    let mut bytes = Vec::new();
+    match rng.below(4) {
+        0 => bytes.extend([200, 128, 255, 128].iter().take(rng.between(1, 4))),
+        1 => {
+            bytes.extend(broken::bad_number(rng, length));
+            bytes.extend(rng.bytes(3));
+        }
+        2 => varint::write(length, &mut bytes),
+        _ => {
+            varint::write(length, &mut bytes);
+            bytes.extend(rng.bytes((length - 1).min(9)));
+        }
+    }
+    bytes
+}

@@ -1,0 +1,23 @@
+//! The second implementation of the sorter gate, from the papers alone: simple above all, to be compared with the
+//! proved one. Nothing in the library prints.
+//!
+//! Bytes come in, `config` and `operation` make values of them, `questions` ask `state`, `trace` and `closure`,
+//! `effect` makes the state that follows, `gate` and `office` put bytes out. `generate` makes inputs.
+
+pub mod closure;
+pub mod config;
+pub mod effect;
+pub mod gate;
+pub mod generate;
+pub mod limits;
+pub mod office;
+pub mod operation;
+pub mod questions;
+pub mod state;
+pub mod tokens;
+pub mod trace;
+pub mod varint;
+
+pub use config::{Config, load};
+pub use gate::{fresh, load_check, operate};
+pub use office::report;

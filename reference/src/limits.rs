@@ -1,0 +1,34 @@
+//! The limits of document 01, each named once. Nothing else in this package writes one of these numbers down.
+
+/// The edition of a configuration file.
+pub const EDITION: usize = 1;
+/// D, V, N and K of a configuration file are at most these.
+pub const MAX_DRIVERS: usize = 16;
+pub const MAX_DEVICES: usize = 16;
+pub const MAX_OBJECTS: usize = 96;
+pub const MAX_VALUES: usize = 47;
+/// Transfer entries in one descriptor value.
+pub const MAX_ENTRIES: usize = 6;
+
+/// Partitions have the numbers 1 to this; 0 is none.
+pub const MAX_PARTITION: usize = 63;
+/// Items, pairs or objects in one operation record, from 1.
+pub const MAX_COUNT: usize = 8;
+
+/// A number has at most this many bytes, and at most this size (question 2).
+pub const MAX_NUMBER_BYTES: usize = 3;
+pub const MAX_NUMBER: usize = 65_535;
+
+/// What an object holds.
+pub const CONTENT_BYTES: usize = 16;
+
+/// The state area: a byte for each partition (0 too), driver and device, and a record for each object.
+pub const STATUS_BYTES: usize = MAX_PARTITION + 1;
+pub const RECORD_BYTES: usize = 1 + CONTENT_BYTES;
+pub const STATE_BYTES: usize = STATUS_BYTES + MAX_DRIVERS + MAX_DEVICES + MAX_OBJECTS * RECORD_BYTES;
+/// The least length of an answer area.
+pub const ANSWER_BYTES: usize = MAX_COUNT * CONTENT_BYTES;
+
+/// The longest files that the office program takes.
+pub const LINE_LIMIT: usize = 4_096;
+pub const SESSION_LIMIT: usize = 32_768;

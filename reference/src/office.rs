@@ -1,0 +1,39 @@
+//! The office program: what it prints for a configuration file and a session.
+
+use crate::gate::{fresh, operate};
+use crate::limits::{ANSWER_BYTES, LINE_LIMIT, SESSION_LIMIT, STATE_BYTES};
+use crate::varint::Reader;
+
+/// The whole output, byte for byte. A slice longer than its limit counts as a file that is too long.
+pub fn report(line: &[u8], session: &[u8]) -> Vec<u8> {
+    if line.len() > LINE_LIMIT || session.len() > SESSION_LIMIT {
+        return b"long\n".to_vec();
+    }
+    let mut state = vec![0; STATE_BYTES];
+    match fresh(line, &mut state) {
+        0 => rows(line, session, &mut state).into_bytes(),
+        number => format!("line {number}\n").into_bytes(),
+    }
+}
+
+/// A row for each record; the answer area is zeros before the first and carried on after it.
+fn rows(line: &[u8], session: &[u8], state: &mut [u8]) -> String {
+    let mut answer = [0; ANSWER_BYTES];
+    let mut reader = Reader::new(session);
+    let mut out = String::new();
+    let mut place = 0;
+    while !reader.at_end() {
+        let Some(record) = next_record(&mut reader) else {
+            return out + "cut\n";
+        };
+        place += 1;
+        out += &format!("{place} {}\n", operate(line, state, record, &mut answer));
+    }
+    out
+}
+
+/// A length, put questions 1 and 2 only, and the record behind it; nothing if it is cut.
+fn next_record<'a>(reader: &mut Reader<'a>) -> Option<&'a [u8]> {
+    let length = reader.number().ok()?;
+    reader.raw(length)
+}

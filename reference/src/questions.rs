@@ -1,0 +1,188 @@
+//! Questions 11 to 20, each put for the whole operation before the next. A question here is a function that answers yes
+//! or no; the first no gives its number.
+
+use crate::closure::{self, Search};
+use crate::config::{Config, Kind, Owner};
+use crate::effect;
+use crate::limits::MAX_PARTITION;
+use crate::operation::{Actor, Operation, Put};
+use crate::state::{EXISTING, NEVER_USED, NONE, State};
+use crate::trace;
+use std::collections::BTreeSet;
+
+/// An operation before the judge, on a well formed state.
+pub struct Case<'a> {
+    pub config: &'a Config,
+    pub state: &'a State,
+    pub operation: &'a Operation,
+    pub search: Search,
+}
+
+type Question = fn(&Case) -> bool;
+
+/// In the order in which they are asked.
+const QUESTIONS: [(u8, Question); 10] = [
+    (11, names_exist),
+    (12, nothing_twice),
+    (13, kinds_fit),
+    (14, partition_fits),
+    (15, destroyed_is_empty),
+    (16, activity_fits),
+    (17, objects_are_there),
+    (18, transfers_are_described),
+    (19, nothing_crosses_after),
+    (20, nothing_leaves_in_reach),
+];
+
+/// The first question that is answered with no.
+pub fn refusal(case: &Case) -> Option<u8> {
+    QUESTIONS.iter().find(|(_, question)| !question(case)).map(|(number, _)| *number)
+}
+
+/// Question 11. Destination 0 passes, and value 0; a value number is asked about whatever its object's kind is.
+fn names_exist(case: &Case) -> bool {
+    let actor = match case.operation.actor() {
+        Some(Actor::Driver(driver)) => (1..=case.config.drivers).contains(&driver),
+        Some(Actor::Device(device)) => (1..=case.config.devices()).contains(&device),
+        None => true,
+    };
+    let partition = case.operation.partition().is_none_or(|partition| (1..=MAX_PARTITION).contains(&partition));
+    let objects = named(case).iter().all(|object| (1..=case.config.objects.len()).contains(object));
+    let values = match case.operation {
+        Operation::Write { items, .. } => items.iter().all(|item| match item.put {
+            Put::Value(value) => value <= case.config.values.len(),
+            Put::Raw(_) => true,
+        }),
+        _ => true,
+    };
+    actor && partition && objects && values
+}
+
+/// All objects that the record names, destination 0 left out.
+fn named(case: &Case) -> Vec<usize> {
+    [case.operation.sources(), case.operation.targets()].concat()
+}
+
+/// Question 12.
+fn nothing_twice(case: &Case) -> bool {
+    let targets = case.operation.targets();
+    targets.iter().collect::<BTreeSet<_>>().len() == targets.len()
+}
+
+/// Question 13.
+fn kinds_fit(case: &Case) -> bool {
+    let kind = |object: usize| case.config.kind(object);
+    let is_value = |object: usize| kind(object) == Kind::Transfer;
+    let each = match case.operation {
+        Operation::Write { items, .. } => {
+            items.iter().all(|item| is_value(item.object) == matches!(item.put, Put::Value(_)))
+        }
+        Operation::Read { pairs, .. } => {
+            pairs.iter().all(|pair| pair.destination == 0 || is_value(pair.source) == is_value(pair.destination))
+        }
+        Operation::ActivateExternal { objects, .. } | Operation::DeactivateExternal { objects, .. } => {
+            objects.iter().all(|object| case.config.object(*object).owner == Owner::External)
+        }
+        _ => true,
+    };
+    each && named(case).iter().all(|object| kind(*object) != Kind::Hardcoded)
+}
+
+/// Question 14.
+fn partition_fits(case: &Case) -> bool {
+    let wanted = if matches!(case.operation, Operation::Create { .. }) { NEVER_USED } else { EXISTING };
+    case.operation.partition().is_none_or(|partition| case.state.status[partition] == wanted)
+}
+
+/// Question 15.
+fn destroyed_is_empty(case: &Case) -> bool {
+    let Operation::Destroy { partition } = case.operation else {
+        return true;
+    };
+    let objects = case.state.objects.iter().map(|record| &record.partition);
+    let mut all = case.state.drivers.iter().chain(&case.state.devices).chain(objects);
+    all.all(|place| usize::from(*place) != *partition)
+}
+
+/// Question 16: what is brought in is inactive; who acts, and what leaves, is active.
+fn activity_fits(case: &Case) -> bool {
+    let entering = matches!(case.operation, Operation::Activate { .. } | Operation::ActivateExternal { .. });
+    let actor = case.operation.actor().map(|actor| actor_partition(case.state, actor));
+    let listed = match case.operation {
+        Operation::ActivateExternal { objects, .. } | Operation::DeactivateExternal { objects, .. } => &objects[..],
+        _ => &[],
+    };
+    let mut places = actor.into_iter().chain(listed.iter().map(|object| case.state.object(*object)));
+    places.all(|partition| (partition == NONE) == entering)
+}
+
+fn actor_partition(state: &State, actor: Actor) -> u8 {
+    match actor {
+        Actor::Driver(driver) => state.driver(driver),
+        Actor::Device(device) => state.device(device),
+    }
+}
+
+/// Question 17.
+fn objects_are_there(case: &Case) -> bool {
+    let partition = match case.operation {
+        Operation::Write { actor: Actor::Driver(driver), .. }
+        | Operation::Read { actor: Actor::Driver(driver), .. } => usize::from(case.state.driver(*driver)),
+        Operation::DeactivateExternal { partition, .. } => *partition,
+        _ => return true,
+    };
+    named(case).iter().all(|object| usize::from(case.state.object(*object)) == partition)
+}
+
+/// Question 18. A copy into a destination is itself a write transfer, of the value that the source holds now.
+fn transfers_are_described(case: &Case) -> bool {
+    let Some(Actor::Device(device)) = case.operation.actor() else {
+        return true;
+    };
+    let transfers = match case.operation {
+        Operation::Write { .. } | Operation::Read { .. } => trace::described(case.config, case.state, device),
+        _ => return true,
+    };
+    let read = |object: usize| transfers.iter().any(|entry| entry.object == object && entry.reads());
+    let written = |object: usize, value: Option<usize>| {
+        let fits = |stored: usize| case.config.kind(object) != Kind::Transfer || value == Some(stored);
+        transfers.iter().any(|entry| entry.object == object && entry.writes() && fits(entry.stored))
+    };
+    match case.operation {
+        Operation::Write { items, .. } => items.iter().all(|item| match item.put {
+            Put::Value(value) => written(item.object, Some(value)),
+            Put::Raw(_) => written(item.object, None),
+        }),
+        Operation::Read { pairs, .. } => pairs.iter().all(|pair| {
+            let copied = pair.destination == 0 || written(pair.destination, Some(case.state.held(pair.source)));
+            read(pair.source) && copied
+        }),
+        _ => true,
+    }
+}
+
+/// Question 19: a driver's write or read, on the state that would follow, about every active device.
+fn nothing_crosses_after(case: &Case) -> bool {
+    let (Operation::Write { actor: Actor::Driver(_), .. } | Operation::Read { actor: Actor::Driver(_), .. }) =
+        case.operation
+    else {
+        return true;
+    };
+    let next = effect::apply(case.config, case.state, case.operation);
+    !closure::any_crosses(case.config, &next, case.search)
+}
+
+/// Question 20: deactivations, on the state before the call. A device that leaves counts for nothing itself, but the
+/// pairs that it can write count for the others. An entry of any mode names its object.
+fn nothing_leaves_in_reach(case: &Case) -> bool {
+    let leaving = match case.operation {
+        Operation::Deactivate { actor } => Some(*actor),
+        Operation::DeactivateExternal { .. } => None,
+        _ => return true,
+    };
+    let concerned = effect::concerned(case.config, case.operation);
+    let found = (case.search)(case.config, case.state);
+    let mut others =
+        closure::entries(case.config, &found).filter(|(device, _)| leaving != Some(Actor::Device(*device)));
+    others.all(|(_, entry)| !concerned.contains(&entry.object))
+}

@@ -1,0 +1,79 @@
+//! The office program: order of its outputs, lengths, cuts, and the stored cases.
+
+mod common;
+
+use common::file_l;
+use reference::generate::stored::{long, stored};
+use reference::generate::{Rng, Size, sessions::folder};
+use reference::report;
+
+fn text(line: &[u8], session: &[u8]) -> String {
+    String::from_utf8(report(line, session)).expect("plain text")
+}
+
+#[test]
+fn long_comes_before_the_line_and_the_line_before_rows() {
+    let too_long_line = vec![0; 4_097];
+    let too_long_session = vec![0; 32_769];
+    assert_eq!(text(&too_long_line, &[]), "long\n");
+    assert_eq!(text(&[], &too_long_session), "long\n");
+    assert_eq!(text(&file_l(), &too_long_session), "long\n");
+    assert_eq!(text(&[], &[2, 5, 1]), "line 1\n");
+    assert_eq!(text(&[file_l(), vec![7]].concat(), &[200]), "line 4\n");
+    assert_eq!(text(&too_long_line[1..], &too_long_session[1..]), "line 3\n");
+}
+
+#[test]
+fn an_empty_session_prints_nothing() {
+    assert_eq!(text(&file_l(), &[]), "");
+}
+
+#[test]
+fn a_session_of_the_full_length() {
+    let session = [2, 5, 1].repeat(32_768 / 3);
+    let session = [session, vec![0, 0]].concat();
+    assert_eq!(session.len(), 32_768);
+    let text = text(&file_l(), &session);
+    assert!(text.starts_with("1 0\n2 14\n") && text.ends_with("10923 10\n10924 10\n"));
+}
+
+#[test]
+fn lengths_and_cuts() {
+    assert_eq!(text(&file_l(), &[0, 2, 5, 1]), "1 10\n2 0\n");
+    assert_eq!(text(&file_l(), &[2, 5, 1, 3, 5, 1]), "1 0\ncut\n");
+    assert_eq!(text(&file_l(), &[2, 5, 1, 128]), "1 0\ncut\n");
+    assert_eq!(text(&file_l(), &[2, 5, 1, 130, 0, 5, 2]), "1 0\ncut\n");
+    assert_eq!(text(&file_l(), &[255, 255, 3, 5]), "cut\n");
+    assert_eq!(text(&file_l(), &[128, 128, 4, 5]), "cut\n");
+    let long_record = |length: &[u8], bytes: usize| text(&file_l(), &[length, &vec![5; bytes]].concat());
+    assert_eq!(long_record(&[127], 127), "1 10\n");
+    assert_eq!(long_record(&[127], 126), "cut\n");
+    assert_eq!(long_record(&[128, 1], 128), "1 10\n");
+}
+
+#[test]
+fn stored_cases_hold_together() {
+    let cases = stored(1, 300, 120_000);
+    assert_eq!(cases.tally.cases, 300);
+    assert!(cases.input.len() <= 120_000);
+    assert_eq!(cases.tally.rare(5), Vec::<usize>::new());
+    assert!(cases.tally.cut >= 5 && cases.tally.silent >= 1);
+    let mut rest = &cases.input[..];
+    let mut expected = Vec::new();
+    while !rest.is_empty() {
+        let length = |place: usize| usize::from(u16::from_le_bytes([rest[place], rest[place + 1]]));
+        let (line, session) = (length(0), length(2));
+        expected.extend(report(&rest[4..4 + line], &rest[4 + line..4 + line + session]));
+        expected.extend(b".\n");
+        rest = &rest[4 + line + session..];
+    }
+    assert_eq!(expected, cases.expected);
+    assert!(long().iter().all(|folder| report(&folder.line, &folder.session) == b"long\n"));
+}
+
+#[test]
+fn the_same_seed_gives_the_same_folder() {
+    let made = |seed: u64| folder(&mut Rng::new(seed), Size::Medium, 30, None);
+    assert_eq!(made(7), made(7));
+    assert_ne!(made(7), made(8));
+}
