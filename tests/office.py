@@ -1,0 +1,128 @@
+"""The office program beside the second implementation: both must print the same for each folder.
+
+    python3 tests/office.py OFFICE REFERENCE
+
+The folders: generated ones of every size, and bad input (absent, empty, too long and unreadable files; sessions cut in a
+length, in a record, after a row; lengths of 0, 127, 128 and 65,535). `judge` is tried on what a person gets wrong.
+"""
+import os
+import pathlib
+import subprocess
+import sys
+import tempfile
+
+LINE_L = bytes([1, 2, 2, 6, 5, 4, 2, 1, 1, 2, 1, 4, 2, 2, 1, 2, 2, 3, 0, 0, 3, 1, 1, 1, 2,
+                1, 2, 1, 0, 1, 4, 1, 0, 1, 5, 2, 0, 1, 4, 2, 3, 1, 2, 2, 4])
+MOST_LINE = 4096
+MOST_SESSION = 32768
+ROW = bytes([2, 5, 1])
+
+# A name, line.bin and session.bin (None: no such file), and what must be printed where the papers say it outright.
+CASES = [
+    ("both absent", None, None, b"line 1\n"),
+    ("line absent", None, ROW, b"line 1\n"),
+    ("session absent", LINE_L, None, b""),
+    ("both empty", b"", b"", b"line 1\n"),
+    ("session empty", LINE_L, b"", b""),
+    ("four rows", LINE_L, bytes([2, 5, 1, 2, 5, 1, 2, 6, 1, 2, 5, 1]), b"1 0\n2 14\n3 0\n4 14\n"),
+    ("line of the most bytes", LINE_L + bytes(MOST_LINE - len(LINE_L)), ROW, b"line 4\n"),
+    ("line too long", LINE_L + bytes(MOST_LINE + 1 - len(LINE_L)), ROW, b"long\n"),
+    ("line far too long", bytes(100000), None, b"long\n"),
+    ("session of the most bytes", LINE_L, bytes(MOST_SESSION), None),
+    ("session too long", LINE_L, bytes(MOST_SESSION + 1), b"long\n"),
+    ("session too long, line refused", b"", bytes(MOST_SESSION + 1), b"long\n"),
+    ("length without its last byte", LINE_L, ROW + bytes([128]), b"1 0\ncut\n"),
+    ("length not in shortest form", LINE_L, ROW + bytes([130, 0, 5, 1]), b"1 0\ncut\n"),
+    ("length of four bytes", LINE_L, ROW + bytes([130, 128, 128, 1, 5, 1]), b"1 0\ncut\n"),
+    ("record cut short", LINE_L, ROW + bytes([2, 5]), b"1 0\ncut\n"),
+    ("record cut short at once", LINE_L, bytes([1]), b"cut\n"),
+    ("length 0", LINE_L, bytes([0]) + ROW, b"1 10\n2 0\n"),
+    ("length 127", LINE_L, bytes([127]) + bytes(127) + ROW, b"1 10\n2 0\n"),
+    ("length 127 cut", LINE_L, bytes([127]) + bytes(126), b"cut\n"),
+    ("length 128", LINE_L, bytes([128, 1]) + bytes(128) + ROW, b"1 10\n2 0\n"),
+    ("length 65,535", LINE_L, ROW + bytes([255, 255, 3]) + bytes(1000), b"1 0\ncut\n"),
+    ("length 65,536", LINE_L, ROW + bytes([128, 128, 4]) + bytes(1000), b"1 0\ncut\n"),
+]
+
+
+def run(words, folder):
+    """What a command prints in a folder."""
+    return subprocess.run(words, cwd=folder, stdout=subprocess.PIPE, check=True, timeout=60).stdout
+
+
+def write_case(folder, line, session):
+    """Writes the two files that are there."""
+    for name, content in (("line.bin", line), ("session.bin", session)):
+        if content is not None:
+            (folder / name).write_bytes(content)
+
+
+def compare(name, folder, office, reference, stated):
+    """Both programs on one folder; a difference ends the test."""
+    got = run([office], folder)
+    want = run([reference, "report", "."], folder)
+    if got != want or (stated is not None and got != stated):
+        sys.exit(f"office.py: {name}: the office program prints {got[:80]!r}, the reference {want[:80]!r}, "
+                 f"the papers {stated!r}")
+
+
+def try_cases(root, office, reference):
+    """Bad input, and a folder in a file's place, which cannot be read and counts as empty."""
+    for place, (name, line, session, stated) in enumerate(CASES):
+        folder = root / f"case{place}"
+        folder.mkdir()
+        write_case(folder, line, session)
+        compare(name, folder, office, reference, stated)
+    folder = root / "unreadable"
+    (folder / "line.bin").mkdir(parents=True)
+    if run([office], folder) != b"line 1\n":
+        sys.exit("office.py: a file that cannot be read does not count as empty")
+    return len(CASES) + 1
+
+
+def try_generated(root, office, reference):
+    """Generated folders of every size."""
+    count = 0
+    for size in ("tiny", "small", "medium", "deep", "full"):
+        folder = root / size
+        run([reference, "generate", "--seed", "5", "--count", "12", "--records", "60", "--size", size, str(folder)], root)
+        for each in sorted(folder.iterdir()):
+            compare(str(each.name), each, office, reference, (each / "expected.txt").read_bytes())
+            count += 1
+    return count
+
+
+def try_judge(root, judge):
+    """Exit status and messages of `judge`."""
+    accepted, refused = root / "accepted", root / "refused"
+    for folder, session in ((accepted, ROW), (refused, ROW + ROW)):
+        folder.mkdir()
+        write_case(folder, LINE_L, session)
+    empty = root / "empty"
+    empty.mkdir()
+    for words, status, out, err in (
+        ([judge, str(accepted)], 0, b"1 0\n", ""),
+        ([judge, str(refused)], 1, b"1 0\n2 14\n", ""),
+        ([judge, str(empty)], 2, b"", "has no line.bin"),
+        ([judge, str(root / "nowhere")], 2, b"", "there is no folder"),
+        ([judge, "a", "b"], 2, b"", "one folder at most"),
+    ):
+        done = subprocess.run(words, capture_output=True, timeout=60)
+        if (done.returncode, done.stdout) != (status, out) or err not in done.stderr.decode():
+            sys.exit(f"office.py: {words}: {done.returncode} {done.stdout!r} {done.stderr.decode()!r}")
+
+
+def main():
+    """All folders, then `judge`."""
+    office, reference = (os.path.abspath(word) for word in sys.argv[1:3])
+    judge = str(pathlib.Path(__file__).resolve().parent.parent / "judge")
+    with tempfile.TemporaryDirectory() as temporary:
+        root = pathlib.Path(temporary)
+        bad = try_cases(root, office, reference)
+        generated = try_generated(root, office, reference)
+        try_judge(root, judge)
+    print(f"office: {bad} folders of bad input and {generated} generated ones, as the reference has them")
+
+
+if __name__ == "__main__":
+    main()

@@ -1,0 +1,27 @@
+#!/usr/bin/env bash
+# The second implementation beside the proved one: its own tests; the stored sessions are the ones it makes; the proved
+# library gives its answers and leaves its bytes, call by call; the office program prints its text, on generated folders
+# and on bad input. A number as the argument is how many calls are compared (30,000 if none is given).
+set -euo pipefail
+cd "$(dirname "$0")/.."
+export CARGO_TARGET_DIR=$PWD/target/reference
+out=$(mktemp -d)
+trap 'rm -rf "$out"' EXIT
+
+cargo test --offline --locked --quiet --manifest-path reference/Cargo.toml > "$out/log" 2>&1 ||
+    { tail -n 40 "$out/log"; exit 1; }
+grep -h '^test result' "$out/log" | awk '{ passed += $4; failed += $6 } END { print "reference: " passed " tests passed, " failed " failed" }'
+cargo build --offline --locked --quiet --release --manifest-path reference/Cargo.toml
+reference=$CARGO_TARGET_DIR/release/reference
+
+"$reference" sessions --seed 1 "$out/stdin" "$out/stdout" 2> "$out/histogram"
+cmp "$out/stdin" crates/sessions/stdin
+cmp "$out/stdout" crates/sessions/stdout
+echo "reference: the stored sessions are the ones that it makes"
+
+[ -f target/staticlib/libgate.a ] || rt staticlib gate > "$out/log" 2>&1 || { tail -n 20 "$out/log"; exit 1; }
+export GATE_LIB_DIR=$PWD/target/staticlib
+cargo build --offline --locked --quiet --release --manifest-path reference/matching/Cargo.toml
+"$CARGO_TARGET_DIR/release/matching" --calls "${1:-30000}"
+
+python3 tests/office.py "$(./judge --program)" "$reference"
