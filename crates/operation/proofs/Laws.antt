@@ -1,20 +1,16 @@
 -- Laws of the operation's definitions by cases, in the form in which the readers' proofs cite them.
 -- Assumes nothing.
-use Prim.Native.Nat.{ℕ, zero, suc, _+_, _-_, _*_, _<_, _≤_}
+use Prim.Native.Nat.{ℕ, zero, suc, _+_, _-_, _<_, _≤_}
 use mathlib.Core.Path.{_≡_, refl, sym, _∙_, subst}
-use mathlib.Core.List.{List, [], _∷_, _++_}
-use mathlib.Core.Bool.{Bool, true, false, not, cond, _&&_, false≢true}
+use mathlib.Core.List.{List}
+use mathlib.Core.Bool.{Bool, true, false, cond, _&&_, false≢true}
 use mathlib.Core.Logic.{_⊎_, ⊎-elim, inl, inr}
-use native.Mathlib.Nat.{add-zero}
-use native.Mathlib.Numerals.{add-one}
 use native.Mathlib.Omega.{arith}
 use native.Mathlib.Decide.{decLe}
-use lib.ListN.{length, getD, take, drop, set, length-drop}
-use lib.Seq.{sets, take-suc, getD-drop, length-take-le}
+use lib.ListN.{length, drop}
 use lib.Dec.{leb, ltb, eqb}
-use borrow.Author.Tests.{le-leb, lt-leb, leb-true, eq-eqb, ne-eqb, not-true, not-false}
+use borrow.Author.Tests.{le-leb, lt-leb, leb-true, eq-eqb, ne-eqb}
 use Rattle.model.specs.Number.{mostNumber, mostBytes, lead, valueOf, shortest, formed, formAt, headAt, numberAt}
-use Rattle.model.specs.State.{contentBytes}
 use Rattle.model.specs.Operation.{
   mostCode,
   mostItems,
@@ -22,7 +18,6 @@ use Rattle.model.specs.Operation.{
   actorOf,
   unread,
   withItem,
-  withRaw,
   read,
   refused,
   taken,
@@ -54,7 +49,6 @@ use Rattle.model.specs.declared.Num.{Num}
 use Rattle.model.specs.declared.Num.the-variants.{Got, Bad}
 use Rattle.model.specs.declared.Operation.{Operation}
 use Rattle.model.specs.declared.Parse.{Parse}
-use Rattle.operation.specs.Raw.{pasted}
 use Rattle.operation.specs.declared.Parsed.{Parsed}
 
 -- what follows a number: it is refused, or it goes to what follows
@@ -136,37 +130,6 @@ pub count-few : (s : List ℕ) (at v next : ℕ) (n : Num) → n ≡ countAt s a
 unfolding countAt
 count-few s at v next n h e = subst Few (sym h ∙ e) (few-counting (numberAt s at))
 
--- an object's contents from a place on
-room-by : (at n : ℕ) → at ≤ n → Dec (at + contentBytes ≤ n) → leb contentBytes (n - at) ≡ leb (at + contentBytes) n
-room-by at n h (yes p) = le-leb contentBytes (n - at) (omega arith) ∙ sym (le-leb (at + contentBytes) n p)
-room-by at n h (no p) = lt-leb contentBytes (n - at) (omega arith) ∙ sym (lt-leb (at + contentBytes) n (omega arith))
-
-pub room : (at n : ℕ) → at ≤ n → leb contentBytes (n - at) ≡ leb (at + contentBytes) n
-room at n h = room-by at n h (decLe (at + contentBytes) n)
-
-pub room-past : (at n : ℕ) → n < at → false ≡ leb (at + contentBytes) n
-room-past at n h = sym (lt-leb (at + contentBytes) n (omega arith))
-
-sets-snoc : (l : List ℕ) (i : ℕ) (vs : List ℕ) (x : ℕ) → sets l i (vs ++ (x ∷ [])) ≡ set (sets l i vs) (i + length vs) x
-sets-snoc l i [] x = rw add-zero
-sets-snoc l i (a ∷ vs) x =
-    let e : suc i + length vs ≡ i + suc (length vs) = omega arith in
-    sets-snoc (set l i a) (suc i) vs x ∙ rw e
-
-module _ (raw : List ℕ) (to : ℕ) (s : List ℕ) (at : ℕ) where
-  pub paste-start : raw ≡ pasted raw to s at 0
-  unfolding pasted
-  paste-start = refl
-
-  pub paste-more : (k : ℕ) (out : List ℕ) → at + k < length s → out ≡ pasted raw to s at k
-      → set out (to + k) (getD s (at + k) 0) ≡ pasted raw to s at (k + 1)
-  unfolding pasted
-  paste-more k out h e =
-      let m : k < length (drop at s) = simp length-drop (omega arith) in
-      let q : length (take k (drop at s)) ≡ k = length-take-le k (drop at s) (omega arith) in
-      rw (e, add-one, take-suc (drop at s) k 0 m, getD-drop at s k 0)
-      (sym (sets-snoc raw to (take k (drop at s)) (getD s (at + k) 0) ∙ rw q))
-
 -- a loop over n items, at item i: the item goes on, refuses, or all are read
 module _ (f : ℕ → ℕ → Operation → Parse) (n i at : ℕ) (op : Operation) where
   turns-more : i < n → turns f (n - i) i at op ≡ andThen (f i at op) (turns f (n - (i + 1)) (i + 1))
@@ -227,36 +190,6 @@ module _ (s : List ℕ) (i object at : ℕ) (op : Operation) where
       → r ≡ payload (eqb form 0) (eqb form 1) s i object at op
   unfolding payload
   payload-number form e p = rw e p
-
-  module _ (b : Bool) (h : b ≡ leb (at + contentBytes) (length s)) where
-    pub raw-stop : {r : Parse} → not b ≡ true → r ≡ refused → r ≡ rawItem s i object at op
-    unfolding rawItem only
-    raw-stop q p = rw (p, ← h, not-true b q)
-
-    pub raw-room : not b ≡ false → at + contentBytes ≤ length s
-    raw-room q = leb-true (at + contentBytes) (length s) (sym h ∙ not-false b q)
-
-    pub raw-go : not b ≡ false → (o : Operation) → o ≡ withItem op i object 0 1
-        → (raw : List ℕ) → raw ≡ pasted (o .raw) (contentBytes * i) s at contentBytes
-        → read (at + contentBytes) (record {
-          code = o .code;
-          subject = o .subject;
-          partition = o .partition;
-          count = o .count;
-          objects = o .objects;
-          seconds = o .seconds;
-          forms = o .forms;
-          raw = raw;
-        })
-        ≡ rawItem s i object at op
-    unfolding rawItem only withRaw pasted
-    raw-go q o e raw p = rw (← h, not-false b q, ← e, p)
-
-pub paste-end : (raw : List ℕ) (to : ℕ) (s : List ℕ) (at k : ℕ) (out : List ℕ) → out ≡ pasted raw to s at k
-    → k ≤ contentBytes → contentBytes ≤ k → out ≡ pasted raw to s at contentBytes
-paste-end raw to s at k out e h l =
-    let q : k ≡ contentBytes = omega arith in
-    rw q at e
 
 -- what follows a code: by the family and the actor of each code of an arm
 module _ (s : List ℕ) (code at : ℕ) where

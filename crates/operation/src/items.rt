@@ -1,13 +1,12 @@
 // Items, pairs and listed objects, each read into an operation.
 ghost use mathlib.Core.Path.{_≡_};
 ghost use Prim.Native.Nat.{_+_, _*_, _<_, _≤_};
-ghost use lib.ListN.{length};
-ghost use lib.Dec.{leb};
+ghost use lib.Seq.{sets};
 ghost use Rattle.model.specs.Number.{mostNumber};
 ghost use Rattle.model.specs.State.{contentBytes};
 ghost use Rattle.model.specs.Operation.{mostItems, withHead, withItem, read, refused};
 ghost use Rattle.model.specs.Operation.{turns, rawItem, item, pair, object};
-ghost use Rattle.operation.specs.Raw.{pasted};
+use crate::content::content_at;
 use crate::fields::number_at;
 use model::CONTENT_BYTES;
 use model::MOST_ITEMS;
@@ -73,33 +72,22 @@ fn with_item(op: Operation, i: usize, object: usize, second: usize, form: u32) -
     o
 }
 
-// The raw bytes with sixteen bytes of `s`, from `at` on, put at `to`.
+// The raw bytes with `bytes` put at `to`.
 fn paste(
     raw: [u8; CONTENT_BYTES * MOST_ITEMS],
     to: usize,
-    s: &[u8],
-    at: usize,
+    bytes: [u8; CONTENT_BYTES],
 ) -> [u8; CONTENT_BYTES * MOST_ITEMS]
-    requires { ⌜ (to + contentBytes ≤ contentBytes * mostItems) × (at + contentBytes ≤ length (now s)) ⌝ }
-    ensures { λ r. ⌜ r ≡ pasted raw to (now (s .entry)) at contentBytes ⌝ }
+    requires { ⌜ to + contentBytes ≤ contentBytes * mostItems ⌝ }
+    ensures { λ r. ⌜ r ≡ sets raw to bytes ⌝ }
 {
     let mut out = raw;
     let mut k = 0;
     while k < CONTENT_BYTES {
-        out[to + k] = s[at + k];
+        out[to + k] = bytes[k];
         k += 1;
     }
     out
-}
-
-// Whether the sixteen bytes of an object's contents stand at `at`.
-fn has_content(s: &[u8], at: usize) -> bool
-    ensures { λ r. ⌜ r ≡ leb (at + contentBytes) (length (now (s .entry))) ⌝ }
-{
-    if s.len() < at {
-        return false;
-    }
-    CONTENT_BYTES <= s.len() - at
 }
 
 // Item i with sixteen raw bytes.
@@ -107,12 +95,14 @@ fn read_raw(s: &[u8], i: usize, object: usize, at: usize, op: Operation) -> Pars
     requires { ⌜ (i < mostItems) × (object ≤ mostNumber) ⌝ }
     ensures { λ r. ⌜ r ≡ rawItem (now (s .entry)) i object at op ⌝ }
 {
-    if !has_content(s, at) {
+    let content = content_at(s, at);
+    if !content.whole {
         return stop();
     }
+    let bytes = content.bytes;
     let mut o = with_item(op, i, object, 0, 1);
     let old = o.raw;
-    let new = paste(old, CONTENT_BYTES * i, s, at);
+    let new = paste(old, CONTENT_BYTES * i, bytes);
     o.raw = new;
     go_on(at + CONTENT_BYTES, o)
 }

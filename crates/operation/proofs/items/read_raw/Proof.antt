@@ -3,18 +3,18 @@
 use mathlib.Core.Path.{_∙_}
 use native.Mathlib.Omega.{arith}
 use borrow.Author.Needs.{needs}
-use Rattle.operation.proofs.Laws
+use Rattle.operation.proofs.Raw
 use Rattle.operation.proofs.items.read_raw.Statement.{statement}
 use Rattle.operation.proofs.items.read_raw.Tie as tie
 
-has-content-requires : tie.Need-has-content-requires
-has-content-requires c κs = search needs
+content-at-requires : tie.Need-content-at-requires
+content-at-requires c κs = search needs
 
 stop-requires : tie.Need-stop-requires
 stop-requires c κs = search needs
 
 returns : tie.Need-returns
-returns c = search Laws.raw-stop
+returns c = search Raw.raw-stop
 
 with-item-requires : tie.Need-with-item-requires
 with-item-requires c κs = search needs
@@ -23,36 +23,29 @@ mul-paste : tie.Need-mul-paste
 mul-paste c = search needs
 
 paste-requires : tie.Need-paste-requires
-paste-requires c κs =
-    let a = c .before .before .before .before .before .args in (
-      omega arith,
-      Laws.raw-room (a .s .now) 0 0 (a .at) (a .op) _ (c .before .before .before .has-content .ensures)
-          (c .before .before .if1 .left),
-    )
+paste-requires c κs = omega arith
 
 add-go-on : tie.Need-add-go-on
 add-go-on c =
-    let a = c .before .before .before .before .before .before .args in
+    let a = c .before .before .before .before .before .before .before .before .args in
     omega (
       arith,
-      Laws.raw-room (a .s .now) 0 0 (a .at) (a .op) _
-          (c .before .before .before .before .has-content .ensures) (c .before .before .before .if1 .left),
+      Raw.raw-room (a .s .now) 0 0 (a .at) (a .op) _
+          (c .before .before .before .before .before .before .content-at .ensures)
+          (c .before .before .before .before .if1 .left),
     )
 
 go-on-requires : tie.Need-go-on-requires
 go-on-requires c κs = search needs
 
 returns-2 : tie.Need-returns-2
-returns-2 c =
-    c .go-on .ensures ∙ Laws.raw-go _ _ _ _ _ _ (c .before .before .before .before .before .has-content .ensures)
-    (c .before .before .before .before .if1 .left) _ (c .before .before .before .with-item .ensures) _
-    (c .before .paste .ensures)
+returns-2 c = c .go-on .ensures ∙ search Raw.raw-go
 
 pub read-raw-spec : {M : Type 1} → statement M
 read-raw-spec =
     tie.close
     (tie.spec
-    has-content-requires
+    content-at-requires
     stop-requires
     returns
     with-item-requires
