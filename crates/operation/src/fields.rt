@@ -1,7 +1,14 @@
-// The numbers of an operation. Every one of them goes through `number_at`.
+// The fields of an operation. Every number goes through `number_at`, raw bytes through `raw_at`, and both through a
+// reader.
 ghost use mathlib.Core.Path.{_≡_};
 ghost use Rattle.model.specs.Number.{numberAt};
 ghost use Rattle.model.specs.Operation.{countAt};
+ghost use Rattle.operation.specs.Raw.{contentAt};
+use crate::content::Content;
+use crate::reader::moved;
+use crate::reader::next;
+use crate::reader::open;
+use crate::reader::raw;
 use model::Fault;
 use model::MOST_ITEMS;
 use model::Num;
@@ -10,7 +17,14 @@ use model::Num;
 pub fn number_at(s: &[u8], at: usize) -> Num
     ensures { λ r. ⌜ r ≡ numberAt (now (s .entry)) at ⌝ }
 {
-    varint::decode(s, at)
+    next(moved(open(s), at))
+}
+
+// The sixteen raw bytes at `at`.
+pub fn raw_at(s: &[u8], at: usize) -> Content
+    ensures { λ r. ⌜ r ≡ contentAt (now (s .entry)) at ⌝ }
+{
+    raw(moved(open(s), at))
 }
 
 // A count: a number from 1 to the most items.

@@ -6,8 +6,8 @@ ghost use Rattle.model.specs.Number.{mostNumber};
 ghost use Rattle.model.specs.State.{contentBytes};
 ghost use Rattle.model.specs.Operation.{mostItems, withHead, withItem, read, refused};
 ghost use Rattle.model.specs.Operation.{turns, rawItem, item, pair, object};
-use crate::content::content_at;
 use crate::fields::number_at;
+use crate::fields::raw_at;
 use model::CONTENT_BYTES;
 use model::MOST_ITEMS;
 use model::Num;
@@ -95,7 +95,7 @@ fn read_raw(s: &[u8], i: usize, object: usize, at: usize, op: Operation) -> Pars
     requires { ⌜ (i < mostItems) × (object ≤ mostNumber) ⌝ }
     ensures { λ r. ⌜ r ≡ rawItem (now (s .entry)) i object at op ⌝ }
 {
-    let content = content_at(s, at);
+    let content = raw_at(s, at);
     if !content.whole {
         return stop();
     }

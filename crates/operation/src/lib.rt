@@ -3,6 +3,7 @@ pub mod codes;
 mod content;
 mod fields;
 mod items;
+mod reader;
 
 ghost use mathlib.Core.Path.{_≡_};
 ghost use Rattle.model.specs.Operation.{readOperation};

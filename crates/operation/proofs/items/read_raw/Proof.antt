@@ -7,8 +7,8 @@ use Rattle.operation.proofs.Raw
 use Rattle.operation.proofs.items.read_raw.Statement.{statement}
 use Rattle.operation.proofs.items.read_raw.Tie as tie
 
-content-at-requires : tie.Need-content-at-requires
-content-at-requires c κs = search needs
+raw-at-requires : tie.Need-raw-at-requires
+raw-at-requires c κs = search needs
 
 stop-requires : tie.Need-stop-requires
 stop-requires c κs = search needs
@@ -31,7 +31,7 @@ add-go-on c =
     omega (
       arith,
       Raw.raw-room (a .s .now) 0 0 (a .at) (a .op) _
-          (c .before .before .before .before .before .before .content-at .ensures)
+          (c .before .before .before .before .before .before .raw-at .ensures)
           (c .before .before .before .before .if1 .left),
     )
 
@@ -45,7 +45,7 @@ pub read-raw-spec : {M : Type 1} → statement M
 read-raw-spec =
     tie.close
     (tie.spec
-    content-at-requires
+    raw-at-requires
     stop-requires
     returns
     with-item-requires
