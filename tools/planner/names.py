@@ -1,0 +1,55 @@
+"""Names in the tables: which are allowed, and what each stands for. Capitals and runs of blanks do not matter."""
+import difflib
+
+from . import wording as w
+
+CONTENT_WORDS = ("text", "bytes")
+RESERVED = {"object": (), "value": (w.CLEARED,), "owner": (w.OWNERS[w.EXTERNAL],), "partition": ()}
+
+
+def key(name):
+    return " ".join(name.split()).casefold()
+
+
+def number_of(text):
+    """The number in '#12'; None for anything else."""
+    digits = text[1:]
+    return int(digits) if text[:1] == "#" and digits.isascii() and digits.isdigit() and len(digits) < 6 else None
+
+
+def check_name(row, column, name, sort):
+    """A fault if a name could be taken for something else in visit.csv."""
+    for mark in (";", "=", "->"):
+        if mark in name:
+            raise row.fault(column, f"'{name}' has '{mark}' in it, which separates names in visit.csv")
+    if name.startswith("#"):
+        raise row.fault(column, f"'{name}' begins with '#', which is kept for numbers")
+    if key(name) in RESERVED[sort] or sort == "value" and key(name).split()[0] in CONTENT_WORDS:
+        raise row.fault(column, f"'{name}' is kept for something else; choose another name")
+
+
+class Names:
+    """A set of names of one sort, each standing for one thing."""
+
+    def __init__(self, sort):
+        self.sort, self.things, self.spelled = sort, {}, {}
+
+    def add(self, row, column, thing):
+        """Takes the name in a cell for a thing; a fault if it is taken."""
+        name = row.needed(column)
+        check_name(row, column, name, self.sort)
+        if key(name) in self.things:
+            raise row.fault(column, f"'{name}' stands there twice")
+        self.things[key(name)], self.spelled[key(name)] = thing, name
+        return name
+
+    def get(self, name):
+        return self.things.get(key(name))
+
+    def find(self, row, column, name, what=None):
+        """What a name stands for; a fault with a likely name if there is none."""
+        if key(name) in self.things:
+            return self.things[key(name)]
+        close = difflib.get_close_matches(key(name), self.things, 1)
+        hint = f"; did you mean '{self.spelled[close[0]]}'?" if close else ""
+        raise row.fault(column, f"there is no {what or self.sort} called '{name}'{hint}")

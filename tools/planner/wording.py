@@ -1,0 +1,102 @@
+"""The papers' numbers as data: operation codes, questions, kinds, modes and limits, with the planner's words for each.
+
+A new code, question or limit is a row here. Nothing in this module judges anything.
+"""
+from dataclasses import dataclass
+
+TRANSFER, FUNCTION, DATA, HARDCODED = 1, 2, 3, 4
+KINDS = {TRANSFER: "transfer descriptor", FUNCTION: "function descriptor", DATA: "data",
+         HARDCODED: "hard-wired descriptor"}
+DESCRIPTORS = (TRANSFER, HARDCODED)
+
+EXTERNAL, DRIVER, DEVICE = 0, 1, 2
+OWNERS = {EXTERNAL: "external", DRIVER: "driver", DEVICE: "card"}
+
+READ, WRITE, BOTH = 1, 2, 3
+MODES = {READ: "read", WRITE: "write", BOTH: "both"}
+MODE_VERBS = {READ: "reads", WRITE: "writes", BOTH: "reads and writes"}
+
+CLEARED = "cleared"
+CONTENT_BYTES = 16
+VALUE_FORM, RAW_FORM = 0, 1
+EDITION = 1
+ACCEPTED = 0
+
+LIMITS = {"drivers": 16, "cards": 16, "objects": 96, "values": 47, "entries of a value": 6, "items of a move": 8,
+          "bytes of line.bin": 4096, "bytes of session.bin": 32768, "partitions": 63, "a number": 65535}
+
+
+@dataclass(frozen=True)
+class Code:
+    """An operation: its number, the word in visit.csv, who acts, the record's fields in order, and a sentence."""
+    number: int
+    verb: str
+    actor: int
+    fields: tuple
+    sentence: str
+
+
+# Fields: "who" a driver or card, "where" a partition, and one of three lists in the column `what`:
+# "items" (object = contents), "pairs" (source -> destination), "objects" (names).
+NOBODY = EXTERNAL
+CODES = {code.number: code for code in (
+    Code(1, "write", DRIVER, ("who", "items"), "driver {who} writes {what}"),
+    Code(2, "write", DEVICE, ("who", "items"), "card {who} writes {what}"),
+    Code(3, "read", DRIVER, ("who", "pairs"), "driver {who} reads {what}"),
+    Code(4, "read", DEVICE, ("who", "pairs"), "card {who} reads {what}"),
+    Code(5, "create", NOBODY, ("where",), "create {partition}"),
+    Code(6, "destroy", NOBODY, ("where",), "destroy {partition}"),
+    Code(7, "activate", DRIVER, ("who", "where"), "activate driver {who} in {where}"),
+    Code(8, "activate", DEVICE, ("who", "where"), "activate card {who} in {where}"),
+    Code(9, "activate", NOBODY, ("where", "objects"), "activate in {where}: {what}"),
+    Code(10, "deactivate", DRIVER, ("who",), "deactivate driver {who}"),
+    Code(11, "deactivate", DEVICE, ("who",), "deactivate card {who}"),
+    Code(12, "deactivate", NOBODY, ("where", "objects"), "deactivate from {where}: {what}"),
+)}
+WRITES = {1, 2}
+READS = {3, 4}
+CREATES, DESTROYS = {5}, {6}
+ACTIVATES = {7, 8, 9}
+DEACTIVATES = {10, 11, 12}
+LISTS = ("items", "pairs", "objects")
+
+# Of the line file (1 to 6), of the calls' areas (7 to 9, which the office program never gets wrong), of a move (from
+# 10). Each is worded so that 'no' is the refusal.
+QUESTIONS = {
+    1: "Is every number of line.bin complete?",
+    2: "Is every number of line.bin well written?",
+    3: "Is every number of the line in its range?",
+    4: "Is line.bin used to its last byte?",
+    5: "Has each card exactly one hard-wired descriptor, and each hard-wired descriptor a card as owner?",
+    6: "Does each hard-wired value name only its own card's objects, none hard-wired, transfer descriptors by read?",
+    7: "Has the state area the right length?",
+    8: "Is the answer area long enough?",
+    9: "Is the state well formed?",
+    10: "Can the move be read to its end?",
+    11: "Does everything named exist?",
+    12: "Is everything named only once?",
+    13: "Do the kinds of the objects fit the move?",
+    14: "Does the partition exist?",
+    15: "Is the partition empty?",
+    16: "Is whoever acts or leaves active?",
+    17: "Are all objects in the driver's partition?",
+    18: "Is each transfer described now, in a descriptor that the card reads?",
+    19: "With this done, is every card kept inside its partition?",
+    20: "Is what leaves out of reach of every card that stays?",
+}
+# Where a question is put in other words for some codes.
+QUESTIONS_BY_CODE = {
+    (14, 5): "Was the partition never used before?",
+    (16, 7): "Is what is brought in inactive?",
+    (16, 8): "Is what is brought in inactive?",
+    (16, 9): "Is what is brought in inactive?",
+    (17, 12): "Are all objects in the partition named?",
+}
+FIRST_OF_TABLES = 5
+OUTSIDE, IN_REACH = 19, 20
+
+
+def question(number, code=None):
+    """The question of a number, or a plain word for a number that this table does not have yet."""
+    plain = QUESTIONS.get(number, "(a question that this tool has no words for)")
+    return QUESTIONS_BY_CODE.get((number, code), plain)
