@@ -1,0 +1,83 @@
+"""The plain book: what is where and holds what after the moves that the program accepted. It judges nothing."""
+from dataclasses import dataclass, field, fields
+
+from . import wording as w
+
+NONE = 0
+
+
+@dataclass
+class State:
+    """Where all things are and what they hold; partitions with the rows that created and destroyed them."""
+    created: dict = field(default_factory=dict)
+    destroyed: dict = field(default_factory=dict)
+    drivers: dict = field(default_factory=dict)
+    devices: dict = field(default_factory=dict)
+    objects: dict = field(default_factory=dict)
+    contents: dict = field(default_factory=dict)
+    moved: dict = field(default_factory=dict)
+
+    def copy(self):
+        return State(*(dict(getattr(self, column.name)) for column in fields(self)))
+
+    def exists(self, partition):
+        return partition in self.created and partition not in self.destroyed
+
+    def existing(self):
+        return [p for p in self.created if self.exists(p)]
+
+    def actor(self, owner_class, number):
+        """The partition of a driver or device."""
+        return (self.drivers if owner_class == w.DRIVER else self.devices).get(number, NONE)
+
+
+def cleared(config, number):
+    return 0 if config.is_descriptor(number) else bytes(w.CONTENT_BYTES)
+
+
+def fresh(config):
+    """Nothing is in use; hardcoded descriptors hold their values, all else is cleared."""
+    state = State(drivers=dict.fromkeys(config.drivers, NONE), devices=dict.fromkeys(config.devices, NONE),
+                  objects=dict.fromkeys(config.objects, NONE))
+    for number, one in config.objects.items():
+        hard = one.kind == w.HARDCODED and one.owner in config.devices
+        state.contents[number] = config.devices[one.owner].hardcoded if hard else cleared(config, number)
+    return state
+
+
+def concerned(config, move):
+    """The objects that an activation or deactivation moves."""
+    return list(move.what) if move.actor == w.NOBODY else config.owned(move.actor, move.who)
+
+
+def follow(config, state, move):
+    """The state after an accepted move."""
+    after = state.copy()
+    if move.code in w.CREATES:
+        after.created[move.where] = move.row
+    elif move.code in w.DESTROYS:
+        after.destroyed[move.where] = move.row
+    elif move.code in w.WRITES:
+        for item in move.what:
+            after.contents[item.object] = item.value if item.form == w.VALUE_FORM else item.raw
+    elif move.code in w.READS:
+        for pair in move.what:
+            if pair.destination:
+                after.contents[pair.destination] = state.contents[pair.source]
+    else:
+        relocate(config, after, move)
+    return after
+
+
+def relocate(config, after, move):
+    """Activation sets the partition and clears all objects concerned but the hardcoded; deactivation sets none."""
+    entering = move.code in w.ACTIVATES
+    target = move.where if entering else NONE
+    if move.actor != w.NOBODY:
+        (after.drivers if move.actor == w.DRIVER else after.devices)[move.who] = target
+        after.moved[(move.actor, move.who)] = move.row
+    for number in concerned(config, move):
+        after.objects[number] = target
+        after.moved[(w.EXTERNAL, number)] = move.row
+        if entering and config.objects[number].kind != w.HARDCODED:
+            after.contents[number] = cleared(config, number)
