@@ -1,0 +1,15 @@
+"""A finding: a clause that says on what a move failed, the things it is about, and for 19 and 20 the chain."""
+from dataclasses import dataclass, field
+
+
+@dataclass(frozen=True)
+class Finding:
+    """`things`, to be marked in a picture, are pairs of "object", "partition" or an owner class, and a number."""
+    text: str
+    things: list = field(default_factory=list)
+    chain: tuple = ()
+
+
+def place(config, partition):
+    """Where something is, in words."""
+    return f"in {config.partition(partition)}" if partition else "in no partition"

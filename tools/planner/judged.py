@@ -1,0 +1,78 @@
+"""A folder's plan, made into files and judged by the program: each move with its answer and the states around it."""
+from dataclasses import dataclass
+from pathlib import Path
+
+from . import book, office, pack, reasons
+from . import wording as w
+from .chain import BrokenChain
+from .config import Config
+from .finding import Finding
+from .tables import open_tables, read_line
+from .visit import read_visit
+
+
+@dataclass(frozen=True)
+class Step:
+    """A judged move: its place in session.bin, the answer, and the state before and after."""
+    place: int
+    move: object
+    answer: int
+    before: object
+    after: object
+
+    @property
+    def accepted(self):
+        return self.answer == w.ACCEPTED
+
+
+@dataclass(frozen=True)
+class Plan:
+    """A configuration, the files made of it, the program's verdict, and the steps (none if the line was refused)."""
+    config: Config
+    line: bytes
+    session: bytes
+    verdict: office.Verdict
+    steps: list
+    table: object = None
+
+    def explained(self, step):
+        """On what a move failed; BrokenChain if a 19 or 20 cannot be explained by a chain that holds."""
+        return [] if step.accepted else reasons.find(self.config, step.before, step.move, step.answer)
+
+    def findings(self, step):
+        """The same for a whole list, in which the other answers must still be told."""
+        try:
+            return self.explained(step)
+        except BrokenChain as fault:
+            return [Finding(f"this could not be explained ({fault})")]
+
+    def last_state(self):
+        return self.steps[-1].after if self.steps else book.fresh(self.config)
+
+
+def judge_folder(program, folder, keep=False):
+    """Reads a folder's tables and has the program judge them; with `keep` line.bin and session.bin stay there."""
+    line = read_line(folder)
+    table = open_tables(folder, ["visit.csv"])["visit.csv"]
+    moves = read_visit(line, table.rows)
+    return judge_moves(program, line.config, moves, Path(folder) if keep else None, table)
+
+
+def judge_moves(program, config, moves, folder=None, table=None):
+    """Has the program judge moves on a configuration."""
+    line, session = pack.line_bytes(config), pack.session_bytes(moves)
+    verdict = office.judge(program, line, session, folder)
+    judged = not (verdict.too_long or verdict.refused_line)
+    if judged and (verdict.cut or len(verdict.answers) != len(moves)):
+        raise office.OfficeError(f"the office program answered {len(verdict.answers)} of {len(moves)} moves")
+    return Plan(config, line, session, verdict, steps_of(config, moves, verdict.answers) if judged else [], table)
+
+
+def steps_of(config, moves, answers):
+    """The moves with their answers; the book follows the accepted ones."""
+    steps, state = [], book.fresh(config)
+    for number, (move, answer) in enumerate(zip(moves, answers), 1):
+        after = book.follow(config, state, move) if answer == w.ACCEPTED else state
+        steps.append(Step(number, move, answer, state, after))
+        state = after
+    return steps
