@@ -1,0 +1,158 @@
+"""The commands of tools/plan and their exit statuses."""
+import argparse
+import shlex
+import sys
+from pathlib import Path
+
+from . import office, unpack
+from . import wording as w
+from .chain import BrokenChain
+from .config import Config
+from .judged import judge_folder
+from .picture import draw_plan
+from .report import ANSWER_COLUMNS, answer_rows, check_lines, explain_lines, refused_whole
+from .table import TableError, TableErrors, write_table
+from .tables import write_tables
+
+DONE, REFUSED, USAGE, TABLES, PROGRAM, UNEXPLAINED = range(6)
+STATUSES = """exit statuses:
+  0  done; for 'check': every move is accepted
+  1  a move or the line is refused
+  2  the command is not typed as it should be
+  3  a table is at fault; file, row and column are named
+  4  the office program is not to be had, or failed
+  5  an answer 19 or 20 could not be explained by a chain that holds"""
+
+
+class UsageError(Exception):
+    """A command that does not fit the plan, such as a row that is not there."""
+
+
+def main(arguments, tool="tools/plan"):
+    """Carries out one command; `tool` is what the planner typed to call it."""
+    options = parser().parse_args(arguments)
+    options.tool = tool
+    try:
+        return options.run(options)
+    except (TableError, TableErrors) as fault:
+        return fail(TABLES, fault)
+    except office.OfficeError as fault:
+        return fail(PROGRAM, fault)
+    except BrokenChain as fault:
+        return fail(UNEXPLAINED, fault)
+    except (UsageError, OSError) as fault:
+        return fail(USAGE, fault)
+
+
+def fail(status, fault):
+    for line in str(fault).splitlines():
+        print(f"plan: {line}", file=sys.stderr)
+    return status
+
+
+def parser():
+    top = argparse.ArgumentParser(prog="plan", description="Plans of service visits, judged by the proved program.",
+                                  epilog=STATUSES, formatter_class=argparse.RawDescriptionHelpFormatter)
+    top.add_argument("--office", metavar="PATH", help=f"the office program (else {office.VARIABLE}, else ./judge)")
+    commands = top.add_subparsers(required=True, metavar="COMMAND")
+    for name, run, arguments, text in (
+            ("new", run_new, ("DIR",), "make empty tables in a folder"),
+            ("check", run_check, ("DIR",), "make line.bin and session.bin and judge every move"),
+            ("explain", run_explain, ("DIR", "ROW"), "say why a row is refused, for 19 and 20 link by link"),
+            ("picture", run_picture, ("DIR", "[ROW]"), "draw the partitions after the visit, or at a row"),
+            ("csv", run_csv, ("DIR",), "write the answers as answers.csv, to paste beside the plan"),
+            ("import", run_import, ("LINE", "[DIR]"), "make tables from a line.bin, and from a session.bin beside it")):
+        command = commands.add_parser(name, help=text, description=text)
+        for argument in arguments:
+            bare = argument.strip("[]")
+            command.add_argument(bare.lower(), metavar=bare, type=int if bare == "ROW" else Path,
+                                 nargs="?" if argument != bare else None)
+        command.set_defaults(run=run)
+    return top
+
+
+def load(options, keep=False):
+    if not options.dir.is_dir():
+        raise UsageError(f"{options.dir} is not a folder")
+    return judge_folder(office.find_office(options.office), options.dir, keep)
+
+
+def judged(plan):
+    """Whether the program judged the moves; if not, what it said is printed."""
+    lines = refused_whole(plan) if plan.verdict.too_long or plan.verdict.refused_line else []
+    print("\n".join(lines), end="\n" if lines else "")
+    return not lines
+
+
+def step_at(plan, row):
+    for step in plan.steps:
+        if step.move.row == row:
+            return step
+    rows = [step.move.row for step in plan.steps]
+    there = f"; moves are in rows {rows[0]} to {rows[-1]}" if rows else ""
+    raise UsageError(f"visit.csv has no move in row {row}{there}")
+
+
+def run_new(options):
+    made = write_tables(options.dir, Config())
+    print(f"Made in {options.dir}: {', '.join(made)}")
+    return DONE
+
+
+def run_check(options):
+    plan = load(options, keep=True)
+    print("\n".join(check_lines(plan, f"{options.tool} explain {shlex.quote(str(options.dir))}")))
+    whole = plan.verdict.too_long or plan.verdict.refused_line
+    return REFUSED if whole or any(not step.accepted for step in plan.steps) else DONE
+
+
+def run_explain(options):
+    plan = load(options)
+    if not judged(plan):
+        return REFUSED
+    print("\n".join(explain_lines(plan, step_at(plan, options.row))))
+    return DONE
+
+
+def run_picture(options):
+    plan = load(options)
+    if not judged(plan):
+        return REFUSED
+    step = None if options.row is None else step_at(plan, options.row)
+    path = options.dir / ("picture.svg" if step is None else f"picture-row-{options.row}.svg")
+    path.write_text(draw_plan(plan, step), encoding="utf-8")
+    print(f"Drawn: {path}")
+    return DONE
+
+
+def run_csv(options):
+    plan = load(options)
+    if not judged(plan):
+        return REFUSED
+    path = options.dir / "answers.csv"
+    write_table(path, ANSWER_COLUMNS, answer_rows(plan), plan.table.separator)
+    print(f"Written: {path}")
+    return DONE
+
+
+def run_import(options):
+    """Tables from a line.bin; a session.bin beside it becomes visit.csv."""
+    folder, beside = options.dir or options.line.parent, options.line.parent / office.SESSION
+    data = options.line.read_bytes()
+    verdict = office.judge(office.find_office(options.office), data, b"")
+    refusal = f"{options.line}: refused by question {verdict.refused_line}: {w.question(verdict.refused_line)}"
+    if verdict.too_long:
+        return fail(REFUSED, f"{options.line}: too long (the program printed 'long')")
+    if 0 < verdict.refused_line < w.FIRST_OF_TABLES:
+        return fail(REFUSED, refusal)
+    source = options.line
+    try:
+        config, moves = unpack.read_line_bytes(data), []
+        if beside.exists():
+            source = beside
+            moves = unpack.read_session_bytes(beside.read_bytes())
+    except unpack.Unreadable as fault:
+        return fail(USAGE, f"{source}: {fault}")
+    made = write_tables(folder, config, moves)
+    print(f"Made in {folder}: {', '.join(made)}")
+    return fail(REFUSED, refusal) if verdict.refused_line else DONE

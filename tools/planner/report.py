@@ -1,0 +1,121 @@
+"""What the commands print: the judged plan, the explanation of a row, the answers as a table."""
+import textwrap
+
+from . import wording as w
+from .line_faults import line_findings
+from .reach import chain_sentences
+from .visit import move_words
+
+WIDTH = 110
+ANSWER_COLUMNS = ("row", "place", "answer", "verdict", "question", "failed on")
+
+
+def wrap(text, first, rest):
+    return textwrap.wrap(text, WIDTH, initial_indent=first, subsequent_indent=rest, break_on_hyphens=False)
+
+
+def sentence(text):
+    return text[0].upper() + text[1:] + ("" if text.endswith(".") else ".")
+
+
+def plural(count, word):
+    return f"{count} {word}{'' if count == 1 else 's'}"
+
+
+def line_summary(plan):
+    config = plan.config
+    counts = [plural(len(config.drivers), "driver"), plural(len(config.devices), "card"),
+              plural(len(config.objects), "object"), plural(len(config.values), "value")]
+    return [f"Line: {', '.join(counts)}; line.bin has {plural(len(plan.line), 'byte')}.",
+            f"Visit: {plural(len(plan.table.rows), 'move')}; session.bin has {plural(len(plan.session), 'byte')}."]
+
+
+def refused_whole(plan):
+    """What to print if the program judged no move: the line was refused, or a file is too long."""
+    if plan.verdict.too_long:
+        lines = ["The files are too long (the program printed 'long'); no move was judged."]
+        for name, data in (("line.bin", plan.line), ("session.bin", plan.session)):
+            most = w.LIMITS[f"bytes of {name}"]
+            if len(data) > most:
+                lines.append(f"  {name} has {len(data):,} bytes; at most {most:,} are read.")
+        return lines
+    number = plan.verdict.refused_line
+    lines = [f"The line is refused by question {number} (the program printed 'line {number}'); no move was judged.",
+             f"  {w.question(number)}"]
+    for text in line_findings(plan.config, number):
+        lines += wrap(sentence(text), "  No: ", "      ")
+    return lines
+
+
+def check_lines(plan, command):
+    """Each move with its answer; a refused one with its question and what it failed on."""
+    if plan.verdict.too_long or plan.verdict.refused_line:
+        return line_summary(plan) + [""] + refused_whole(plan)
+    lines = line_summary(plan) + [""]
+    for step in plan.steps:
+        verdict = "accepted" if step.accepted else f"refused {step.answer}"
+        lines += wrap(move_words(plan.config, step.move), f"row {step.move.row:>3}  {verdict:<11} ", " " * 21)
+        if not step.accepted:
+            lines += refusal_lines(plan, step, command)
+    refused = [step for step in plan.steps if not step.accepted]
+    total = f"{plural(len(plan.steps), 'move')}: {len(plan.steps) - len(refused)} accepted, {len(refused)} refused"
+    rows = ", ".join(str(step.move.row) for step in refused)
+    return lines + ["", f"{total} (row{'' if len(refused) == 1 else 's'} {rows})." if refused else f"{total}."]
+
+
+def refusal_lines(plan, step, command):
+    """The question and what it failed on; `command` explains a row when its number is put behind."""
+    lines = wrap(w.question(step.answer, step.move.code), " " * 21, " " * 21)
+    findings = plan.findings(step)
+    for finding in findings:
+        lines += wrap(sentence(finding.text), " " * 21 + "No: ", " " * 25)
+        if finding.chain:
+            lines.append(" " * 25 + f"See: {command} {step.move.row}")
+    return lines if findings else lines + [" " * 21 + "No; the tables do not show on what."]
+
+
+def explain_lines(plan, step):
+    """The explanation of one row: for 19 and 20 the chain link by link."""
+    head = wrap(move_words(plan.config, step.move), f"Row {step.move.row}: ", "    ")
+    if step.accepted:
+        return head + ["Accepted: every question is answered yes."]
+    lines = head + wrap(w.question(step.answer, step.move.code), f"Refused by question {step.answer}: ", "    ")
+    for finding in plan.explained(step):
+        lines += wrap(sentence(finding.text), "No: ", "    ")
+        if finding.chain:
+            lines += [""] + chain_lines(plan, step, finding.chain)
+    return lines
+
+
+def chain_lines(plan, step, links):
+    then = "The chain, in the state that would follow this move:" if step.answer == w.OUTSIDE else \
+        "The chain, in the state before this move:"
+    lines = [then]
+    for number, text in enumerate(chain_sentences(plan.config, step.before, step.move, links), 1):
+        lines += wrap(text, f"{number:>4}. ", " " * 6)
+    rests = rests_on(plan.config, step, links)
+    if rests:
+        lines += wrap(f"It rests on what {rests} now: change that first, and this chain is broken.", "", "")
+    return lines + ["Each link was checked against the tables and the moves accepted so far."]
+
+
+def rests_on(config, step, links):
+    """The transfer descriptors whose present values the chain needs, beside those that the move itself fills."""
+    put = {(link.to, link.stored) for link in links if link.kind == "puts"}
+    held = [link.to for link in links if link.kind == "reads" and (link.to, link.stored) not in put
+            and link.to not in step.move.stored_to() and config.objects[link.to].kind == w.TRANSFER]
+    names = [config.object(n) for n in dict.fromkeys(held)]
+    return " and ".join(names) + (" hold" if len(names) > 1 else " holds") if names else ""
+
+
+def answer_rows(plan):
+    """A row for each row of visit.csv below its heading, blank ones too, so that it can be pasted beside the plan."""
+    rows = {step.move.row: answer_row(plan, step) for step in plan.steps}
+    return [rows.get(number, (number,) + ("",) * (len(ANSWER_COLUMNS) - 1)) for number in range(2, plan.table.last + 1)]
+
+
+def answer_row(plan, step):
+    if step.accepted:
+        return step.move.row, step.place, step.answer, "accepted", "", ""
+    failed = "; ".join(finding.text for finding in plan.findings(step))
+    return step.move.row, step.place, step.answer, "refused", w.question(step.answer, step.move.code), failed
