@@ -1,0 +1,98 @@
+"""Random lines and sessions, the same for the same seed. The answers are the program's; nothing here knows them."""
+import random
+
+from planner import wording as w
+from planner.config import Config, Device, Entry, Object, Value
+from planner.visit import Item, Move, Pair
+
+PARTITIONS = 3
+
+
+def random_line(seed):
+    """A configuration that passes questions 1 to 6, with values that often name things of other owners."""
+    rng = random.Random(f"line {seed}")
+    config = Config(drivers={n: f"D{n}" for n in range(1, rng.randint(1, 3) + 1)})
+    devices = rng.randint(1, 4)
+    kinds = [(w.HARDCODED, w.DEVICE, n) for n in range(1, devices + 1)]
+    kinds += [(w.TRANSFER, w.DEVICE, n) for n in range(1, devices + 1) for _ in range(rng.randint(1, 2))]
+    for owner_class, owners in ((w.DRIVER, len(config.drivers)), (w.DEVICE, devices), (w.EXTERNAL, 1)):
+        for _ in range(rng.randint(1, 4)):
+            kind = rng.choice((w.TRANSFER, w.TRANSFER, w.FUNCTION, w.DATA))
+            kinds.append((kind, owner_class, rng.randint(1, owners) if owner_class else 0))
+    rng.shuffle(kinds)
+    config.objects = {n: Object(f"O{n}", *kind) for n, kind in enumerate(kinds, 1)}
+    count = devices + rng.randint(4, 12)
+    for n in range(1, count + 1):
+        entries = hardcoded_entries(rng, config, n) if n <= devices else entries_of(rng, config, count)
+        config.values[n] = Value(f"V{n}", tuple(entries))
+    config.devices = {n: Device(f"C{n}", n) for n in range(1, devices + 1)}
+    return config
+
+
+def hardcoded_entries(rng, config, device):
+    for n in config.owned(w.DEVICE, device):
+        kind = config.objects[n].kind
+        if kind == w.TRANSFER or kind != w.HARDCODED and rng.random() < 0.5:
+            yield Entry(n, w.READ if kind == w.TRANSFER else rng.randint(w.READ, w.BOTH), 0)
+
+
+def entries_of(rng, config, values):
+    for _ in range(rng.randint(1, 3)):
+        n = rng.choice([n for n, one in config.objects.items() if one.kind != w.HARDCODED or rng.random() < 0.1])
+        mode = rng.randint(w.READ, w.BOTH)
+        stores = config.objects[n].kind == w.TRANSFER and mode != w.READ
+        yield Entry(n, mode, rng.randint(0, values) if stores else 0)
+
+
+def random_visit(config, seed):
+    """Moves that bring most things into service, then write, copy and move them about, some of them nonsense."""
+    rng = random.Random(f"visit {seed}")
+    homes = rng.choice(((1,), (1, 2), (1, 1, 1, 2), tuple(range(1, PARTITIONS + 1))))
+    moves = [(5, 0, p, ()) for p in range(1, PARTITIONS + 1)]
+    moves += [(7, n, rng.choice(homes), ()) for n in config.drivers]
+    moves += [(8, n, rng.choice(homes), ()) for n in config.devices]
+    moves += [(9, 0, rng.choice(homes), (n,)) for n in config.owned(w.EXTERNAL, 0)]
+    where = {(code, who): p for code, who, p, _ in moves}
+    for _ in range(40):
+        moves.append(sensible(rng, config, where) if rng.random() < 0.8 else nonsense(rng, config))
+    return [Move(row, *move) for row, move in enumerate(moves, 2)]
+
+
+def sensible(rng, config, where):
+    """Mostly a driver's write of a descriptor that was brought into its own partition."""
+    draw = rng.random()
+    if draw < 0.7:
+        driver = rng.choice(list(config.drivers))
+        near = [n for n, one in config.objects.items() if one.kind == w.TRANSFER
+                and where.get((6 + one.owner_class, one.owner)) == where[(7, driver)]]
+        if near:
+            return 1, driver, 0, (Item(rng.choice(near), w.VALUE_FORM, rng.randint(0, len(config.values))),)
+    if draw < 0.85:
+        return 11, rng.choice(list(config.devices)), 0, ()
+    if draw < 0.93:
+        return 8, rng.choice(list(config.devices)), rng.randint(1, PARTITIONS), ()
+    loose = config.owned(w.EXTERNAL, 0)
+    return rng.choice((9, 12)), 0, rng.randint(1, PARTITIONS), (rng.choice(loose),)
+
+
+def nonsense(rng, config):
+    """Any code with numbers in and a little beyond their ranges."""
+    code = rng.choice(list(w.CODES))
+    crew = config.drivers if w.CODES[code].actor == w.DRIVER else config.devices
+
+    def anything(most):
+        return rng.randint(0, most + 1) if rng.random() < 0.1 else rng.randint(1, max(most, 1))
+
+    what = ()
+    for field in w.CODES[code].fields:
+        count = range(9 if rng.random() < 0.05 else rng.randint(1, 3))
+        if field == "items":
+            what = tuple(Item(anything(len(config.objects)), form, anything(len(config.values)) * (1 - form))
+                         for form in (rng.randint(0, 1) for _ in count))
+        elif field == "pairs":
+            what = tuple(Pair(anything(len(config.objects)), anything(len(config.objects)) * rng.randint(0, 1))
+                         for _ in count)
+        elif field == "objects":
+            what = tuple(anything(len(config.objects)) for _ in count)
+    who = anything(len(crew)) if "who" in w.CODES[code].fields else 0
+    return code, who, anything(PARTITIONS) if "where" in w.CODES[code].fields else 0, what
