@@ -7,6 +7,7 @@ length, in a record, after a row; lengths of 0, 127, 128 and 65,535). `judge` is
 """
 import os
 import pathlib
+import shutil
 import subprocess
 import sys
 import tempfile
@@ -107,9 +108,21 @@ def try_judge(root, judge):
         ([judge, str(root / "nowhere")], 2, b"", "there is no folder"),
         ([judge, "a", "b"], 2, b"", "one folder at most"),
     ):
-        done = subprocess.run(words, capture_output=True, timeout=60)
-        if (done.returncode, done.stdout) != (status, out) or err not in done.stderr.decode():
-            sys.exit(f"office.py: {words}: {done.returncode} {done.stdout!r} {done.stderr.decode()!r}")
+        expect(words, status, out, err)
+    # A copy with nothing built, where the toolchain is not on the path.
+    bare = root / "bare"
+    (bare / "crates").mkdir(parents=True)
+    (bare / "crates.txt").touch()
+    shutil.copy(judge, bare / "judge")
+    expect([str(bare / "judge"), str(accepted)], 2, b"", "'rt' of the Rattle toolchain is not installed",
+           {"PATH": "/usr/bin:/bin"})
+
+
+def expect(words, status, out, err, env=None):
+    """Exit status, what is printed, and a part of the message."""
+    done = subprocess.run(words, capture_output=True, timeout=60, env=env)
+    if (done.returncode, done.stdout) != (status, out) or err not in done.stderr.decode():
+        sys.exit(f"office.py: {words}: {done.returncode} {done.stdout!r} {done.stderr.decode()!r}")
 
 
 def main():
