@@ -6,7 +6,7 @@ use mathlib.Core.Path.{_≡_, refl, sym, ap, subst, _∙_}
 use mathlib.Core.Logic.{⊎-elim, by-cases}
 use mathlib.Core.Bool.{Bool, true, false, not, cond, _||_, false≢true, true≢false}
 use mathlib.Core.List.{List}
-use borrow.Author.Tests.{eqb-true, eqb-false, eq-eqb, ne-eqb}
+use borrow.Author.Tests.{eqb-true, eqb-false, eq-eqb, ne-eqb, not-false}
 use lib.Bits.{bitOr, bitAnd}
 use lib.Dec.{eqb}
 use lib.ListN.{getD, length, set, replicate}
@@ -19,7 +19,7 @@ use Rattle.closure.specs.Digits.{bit}
 use Rattle.closure.specs.Rules.{crossing, naming}
 use Rattle.closure.specs.Scene.{In}
 use Rattle.closure.specs.Words.{Has, ReaderIn}
-use Rattle.closure.specs.Search.{Parts, FineWord, Doubts, NoStrange, Live, Finds, Looked}
+use Rattle.closure.specs.Search.{Parts, FineWord, NoStrange, Safe, Spared, Live, Finds, Looked}
 use Rattle.closure.specs.declared.search.Finding.{Finding}
 use Rattle.closure.specs.declared.search.Finding.the-variants.{Found, Nothing}
 use Rattle.closure.proofs.Digits as Digits
@@ -69,15 +69,15 @@ fine-inside kind b devices o p y t f e is =
           ⊎-elim (λ k. false≢true (sym (flip-true four (q .0)) ∙ k))
           (λ k. eqb-false (objectIn b o) (deviceIn b (n + 1)) (flip-true _ k) (sym (f .right p n (q .1) ∙ e)))
           (or-true h));
-      all = λ n i h. not-false _ (λ k. h (inside n i k));
+      all = λ n i h. unless-false _ (λ k. h (inside n i k));
     }
   where
     four : Bool
     four = eqb (getD kind o 0) 4
 
-    not-false : (t : Bool) → (t ≡ false → ⊥) → t ≡ true
-    not-false true k = refl
-    not-false false k = absurd (k refl)
+    unless-false : (t : Bool) → (t ≡ false → ⊥) → t ≡ true
+    unless-false true k = refl
+    unless-false false k = absurd (k refl)
 
     neither : (s t : Bool) → s || not t ≡ false → (not s ≡ true) × (t ≡ true)
     neither true t k = absurd (true≢false k)
@@ -142,14 +142,25 @@ fine-more bad devices f o x h p g j l k =
     (subst (λ (y : ℕ). FineWord bad devices o y) (sym (getD-set-same f o x 0 h)) p))
     (λ e. subst (λ (y : ℕ). FineWord bad devices j y) (sym (getD-set-other f o j x 0 e)) (g j l (omega arith)))
 
--- one entry more that is not strange
-pub strange-more : (table f : List ℕ) (w v i o : ℕ) → o ≡ getD table (entryPlace v i) 0
-    → bitOr (getD f o 0) w ≡ getD f o 0 → NoStrange table f w v i → NoStrange table f w v (i + 1)
-strange-more table f w v i o is e g j n l h b =
+-- the devices that may name the objects of a value: one entry more
+pub safe-more : (table f : List ℕ) (w v i o : ℕ) → o ≡ getD table (entryPlace v i) 0 → NoStrange table f w v i
+    → NoStrange table f (bitAnd w (getD f o 0)) v (i + 1)
+safe-more table f w v i o is g j n l h b =
+    let p = and-out w (getD f o 0) n b in
     by-cases (ℕ-discrete j i)
     (λ q. subst (λ (j : ℕ). Has f (getD table (entryPlace v j) 0) n) (sym q)
-    (subst (λ (o : ℕ). Has f o n) is (subst (λ (x : ℕ). bit x n ≡ 1) e (Digits.or-right (getD f o 0) w n b))))
-    (λ q. g j n l (omega arith) b)
+    (subst (λ (o : ℕ). Has f o n) is (p .1)))
+    (λ q. g j n l (omega arith) (p .0))
+
+-- one value more
+pub safe-set : (count table f s : List ℕ) (v x : ℕ) → v < length s
+    → NoStrange table f x v (getD count v 0 + 1) → Safe count table f s v → Safe count table f (set s v x) (v + 1)
+safe-set count table f s v x h p g u k =
+    by-cases (ℕ-discrete u v)
+    (λ e. subst (λ (u : ℕ). NoStrange table f (getD (set s v x) u 0) u (getD count u 0 + 1)) (sym e)
+    (subst (λ (y : ℕ). NoStrange table f y v (getD count v 0 + 1)) (sym (getD-set-same s v x 0 h)) p))
+    (λ e. subst (λ (y : ℕ). NoStrange table f y u (getD count u 0 + 1)) (sym (getD-set-other s v u x 0 e))
+    (g u (omega arith)))
 
 unset : (q v x : ℕ) (b : Bool) → x ≡ cond b (2 ^ (v + mostDevices)) 0
     → (bit (bitOr q x) (v + mostDevices) ≡ 1 → ⊥) → b ≡ false
@@ -158,18 +169,17 @@ unset q v x true is h =
     (subst (λ (z : ℕ). bit z (v + mostDevices) ≡ 1) (sym is) (pow-bit (v + mostDevices)))))
 unset q v x false is h = refl
 
--- one value more
-pub doubts-more : (count table t f : List ℕ) (q v x : ℕ) (b : Bool) → x ≡ cond b (2 ^ (v + mostDevices)) 0
-    → (b ≡ false → NoStrange table f (getD t v 0) v (getD count v 0 + 1)) → Doubts count table t f q v
-    → Doubts count table t f (bitOr q x) (v + 1)
-doubts-more count table t f q v x b is g d u h none j n p e =
+-- the values to be looked at: one value more
+pub spared-more : (t s : List ℕ) (q v x : ℕ) (b : Bool) → x ≡ cond b (2 ^ (v + mostDevices)) 0
+    → b ≡ not (eqb (bitOr (getD s v 0) (getD t v 0)) (getD s v 0)) → Spared t s q v → Spared t s (bitOr q x) (v + 1)
+spared-more t s q v x b is e g u h none n d =
     by-cases (ℕ-discrete u v)
     (λ y.
-    let s : In (getD count v 0) j = subst (λ (u : ℕ). In (getD count u 0) j) y p in
-    subst (λ (u : ℕ). Has f (getD table (entryPlace u j) 0) n) (sym y)
-    (g (unset q v x b is (subst (λ (u : ℕ). bit (bitOr q x) (u + mostDevices) ≡ 1 → ⊥) y none)) j n (s .low)
-    (omega (arith, s .high)) (subst (λ (u : ℕ). Has t u n) y e)))
-    (λ y. d u (omega arith) (λ z. none (Digits.or-left q x (u + mostDevices) z)) j n p e)
+    let z = unset q v x b is (subst (λ (u : ℕ). bit (bitOr q x) (u + mostDevices) ≡ 1 → ⊥) y none) in
+    subst (λ (u : ℕ). Has s u n) (sym y)
+    (subst (λ (w : ℕ). bit w n ≡ 1) (eqb-true _ _ (not-false _ (sym e ∙ z)))
+    (Digits.or-right (getD s v 0) (getD t v 0) n (subst (λ (u : ℕ). Has t u n) y d))))
+    (λ y. g u (omega arith) (λ z. none (Digits.or-left q x (u + mostDevices) z)) n d)
 
 -- the word of a descriptor that a device reads
 pub reader-digit : (k : List ℕ) (c o : ℕ) → ReaderIn k c o → Has k o (c - 1)
@@ -200,14 +210,21 @@ live-some k c o q i true is e =
 live-some k c o q i false is e = absurd (true≢false e)
 
 -- what was found is what there is
-module _ (n : Counts) (count table k t f : List ℕ) (q : ℕ) (doubt : Doubts count table t f q (n .values + 1)) where
+module _ (n : Counts) (count table k t f s : List ℕ) (q : ℕ) (safe : Safe count table f s (n .values + 1))
+    (spared : Spared t s q (n .values + 1)) where
+  -- a value that is not looked at names only objects that its devices may name
+  doubtless : (c v j : ℕ) → v ≤ n .values → (bit q (v + mostDevices) ≡ 1 → ⊥) → In (getD count v 0) j
+      → Has t v (c - 1) → Has f (getD table (entryPlace v j) 0) (c - 1)
+  doubtless c v j h none l d =
+      safe v (omega arith) j (c - 1) (l .low) (omega (arith, l .high)) (spared v (omega arith) none (c - 1) d)
+
   pub looked-none : q ≡ 0 → Looked count table k f n t Nothing
   looked-none z c o v j p r h a b d l =
-      doubt v (omega arith)
-      (λ s. bit-zero (v + mostDevices) (subst (λ (w : ℕ). bit w (v + mostDevices) ≡ 1) z s)) j (c - 1) l d
+      doubtless c v j h
+      (λ e. bit-zero (v + mostDevices) (subst (λ (w : ℕ). bit w (v + mostDevices) ≡ 1) z e)) l d
 
-  pub looked-found : (s : Finding) → Finds count table k f n q s → Looked count table k f n t s
+  pub looked-found : (r : Finding) → Finds count table k f n q r → Looked count table k f n t r
   looked-found (Found c o v j) g = g
   looked-found Nothing g =
       λ c o v j p r h a b d l. by-cases (ℕ-discrete (bit q (v + mostDevices)) 1) (λ z. g c o v p r h a b z j l)
-      (λ z. doubt v (omega arith) z j (c - 1) l d)
+      (λ z. doubtless c v j h z l d)

@@ -4,7 +4,7 @@ use native.Mathlib.Omega.{arith}
 use native.Mathlib.Decide.{ℕ-discrete}
 use mathlib.Core.Path.{_≡_, refl, sym, subst, _∙_}
 use mathlib.Core.Logic.{_⊎_, inl, inr, ⊎-elim, by-cases}
-use mathlib.Core.Bool.{Bool, true, false, _||_}
+use mathlib.Core.Bool.{Bool, true, false, _||_, true≢false}
 use mathlib.Core.List.{List}
 use lib.ListN.{getD, length, set, length-set}
 use Rattle.model.specs.Config.{mostDevices, hardcodedTo}
@@ -26,6 +26,7 @@ use Rattle.closure.specs.Words.{
   BegunAt,
   Before,
   Settled,
+  Rushed,
 }
 use Rattle.closure.proofs.Digits.{bit-mod}
 use Rattle.closure.proofs.Ranges.{live-object, hardcoded-object}
@@ -75,6 +76,10 @@ own-bit m k (suc n) o i f a e =
       f n p (subst (λ (c : ℕ). active (m .state) c ≡ true) q a)
           (subst (λ (c : ℕ). hardcodedTo (m .config) c o ≡ true) q e),
     )
+
+or-last : (a b : Bool) → b ≡ true → a || b ≡ true
+or-last true b e = refl
+or-last false b e = e
 
 module _ {m : Scene} where
   -- a descriptor that was visited
@@ -148,6 +153,13 @@ module _ {m : Scene} where
       → Swept m k k′ t t′ z z′ r E
   swept-as s f = record { step = s .step; long = s .long; seen = s .seen; done = λ e q. f (s .done e q) }
 
+  -- a sweep that stops after a descriptor with something to do
+  pub swept-stop : {k k′ t t′ z z′ : List ℕ} {D E : Type 0} (a b : Bool) → b ≡ true
+      → Swept m k k′ t t′ z z′ (a || b) D → Swept m k k′ t t′ z z′ true E
+  swept-stop {k} {k′} {t} {t′} {z} {z′} {D} a b e s =
+      let w = subst (λ (r : Bool). Swept m k k′ t t′ z z′ r D) (or-last a b e) s in
+      record { step = w .step; long = w .long; seen = w .seen; done = λ f. absurd (true≢false f) }
+
   begun-wider : {k k′ : List ℕ} {o : ℕ} → Wider k k′ → BegunAt m k o → BegunAt m k′ o
   begun-wider {o = o} w b =
       record {
@@ -203,3 +215,42 @@ settled-swept {m} {k} {k′} {t} {t′} few e b s =
     subst (λ (x : List ℕ). Covered w x t′ o) (sym (s .step .same-known e))
     (subst (λ (x : List ℕ). Covered w k x o) (sym (s .step .same-done e))
     (s .done e (b .seen) o (omega (arith, p .high)) p)))
+
+module _ {m : Scene} where
+  -- sweeps of which the last may stop before its end
+  pub rushed-start : {k t z : List ℕ} → Rushed m k k t t z z true
+  rushed-start =
+      record {
+        known-long = refl;
+        done-long = refl;
+        seen-long = refl;
+        kept = λ b. b;
+        settled = λ e. absurd (true≢false e);
+      }
+
+  pub rushed-more : {k k′ k″ t t′ t″ z z′ z″ : List ℕ} {r : Bool} {D : Type 0} → Rushed m k k′ t t′ z z′ true
+      → Swept m k′ k″ t′ t″ z′ z″ r D → Rushed m k k″ t t″ z z″ true
+  rushed-more f s =
+      record {
+        known-long = s .step .known .long ∙ f .known-long;
+        done-long = s .step .long ∙ f .done-long;
+        seen-long = s .long ∙ f .seen-long;
+        kept = λ b. before-swept s (f .kept b);
+        settled = λ e. absurd (true≢false e);
+      }
+
+  -- the last had nothing to do
+  pub rushed-last : {k k′ k″ t t′ t″ z z′ z″ : List ℕ} {r : Bool} → m .config .counts .devices ≤ mostDevices
+      → r ≡ false → Rushed m k k′ t t′ z z′ true
+      → Swept m k′ k″ t′ t″ z′ z″ r ((o : ℕ) → o < m .config .counts .objects + 1 → In (m .config .counts .objects) o
+      → Covered (m .config .counts .values) k′ t′ o)
+      → Rushed m k k″ t t″ z z″ false
+  rushed-last few e f s =
+      let g = rushed-more f s in
+      record {
+        known-long = g .known-long;
+        done-long = g .done-long;
+        seen-long = g .seen-long;
+        kept = g .kept;
+        settled = λ p b. settled-swept few e (f .kept b) s;
+      }

@@ -36,11 +36,13 @@ Fines bad n f = (o : ℕ) → In (n .objects) o → FineWord bad (n .devices) o 
 abbrev pub NoStrange : List ℕ → List ℕ → ℕ → ℕ → ℕ → Type 0
 NoStrange table f w v i = (j n : ℕ) → 1 ≤ j → j < i → bit w n ≡ 1 → Has f (getD table (entryPlace v j) 0) n
 
--- so do those of the values below w without a digit in r, for the devices of their words in t
-abbrev pub Doubts : List ℕ → List ℕ → List ℕ → List ℕ → ℕ → ℕ → Type 0
-Doubts count table t f r w =
-    (v : ℕ) → v < w → (bit r (v + mostDevices) ≡ 1 → ⊥) → (j n : ℕ) → In (getD count v 0) j → Has t v n
-    → Has f (getD table (entryPlace v j) 0) n
+-- s has a word for each value: for the values below w, devices that may name every object of the value
+abbrev pub Safe : List ℕ → List ℕ → List ℕ → List ℕ → ℕ → Type 0
+Safe count table f s w = (v : ℕ) → v < w → NoStrange table f (getD s v 0) v (getD count v 0 + 1)
+
+-- of the values below w those without a digit in r have only devices in t that they have in s
+abbrev pub Spared : List ℕ → List ℕ → ℕ → ℕ → Type 0
+Spared t s r w = (v : ℕ) → v < w → (bit r (v + mostDevices) ≡ 1 → ⊥) → (n : ℕ) → Has t v n → Has s v n
 
 -- of the word of descriptor o, what a device c that reads o has to look at: the digits of q
 pub record Live (k : List ℕ) (c o q r : ℕ) : Type 0 where

@@ -172,6 +172,14 @@ module _ (m : Scene) where
     pub right : DoneRight t
     pub covers : (o : ℕ) → In (m .config .counts .objects) o → Covered (m .config .counts .values) k t o
 
+  -- k, t and z became k′, t′ and z′ by sweeps, of which the last may have stopped before its end; r says whether it did
+  pub record Rushed (k k′ t t′ z z′ : List ℕ) (r : Bool) : Type 0 where
+    pub known-long : length k′ ≡ length k
+    pub done-long : length t′ ≡ length t
+    pub seen-long : length z′ ≡ length z
+    pub kept : Before k t z → Before k′ t′ z′
+    pub settled : r ≡ false → Before k t z → Settled k′ t′
+
   -- the word of o before any step
   pub record FirstWord (o x : ℕ) : Type 0 where
     pub right : RightWord o x

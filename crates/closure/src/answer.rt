@@ -1,75 +1,40 @@
 // Questions 19 and 20 over a configuration's columns and a state area.
 use crate::begin::begin;
+use crate::early::settle_until;
 use crate::fine;
 use crate::grow::FIRST_VALUE;
-use crate::rules::ENTRY_ROOM;
 use crate::search::Finding;
 use crate::search::find;
 use crate::sweep::settle;
-use crate::sweep::sweep;
 use crate::words;
 ghost use mathlib.Core.Path.{_≡_};
 ghost use mathlib.Core.Bool.{Bool, true, false};
 ghost use Prim.Native.Nat.{ℕ, _+_, _≤_};
 ghost use lib.Dec.{eqb};
 ghost use lib.ListN.{getD};
+ghost use Rattle.model.specs.Config.{mostValues};
 ghost use Rattle.model.specs.State.{view};
 ghost use Rattle.model.specs.Closure.{confined, unnamed};
 ghost use Rattle.model.specs.declared.Devices.{Devices};
 ghost use Rattle.closure.specs.Scene.{configOf, sceneOf, ValuesOk, OwnersOk, AreaOk};
-ghost use Rattle.closure.specs.Search.{NoStrange, Doubts, Fines, Looked, Answers, isFound, isNothing};
+ghost use Rattle.closure.specs.Search.{Safe, Spared, Fines, Looked, Answers, isFound, isNothing};
 ghost use Rattle.closure.specs.Search.{IsCrossing, IsNaming};
 use model::Counts;
-use model::ENTRY_BYTES;
 use model::ENTRY_SLOTS;
 use model::OBJECT_SLOTS;
 use model::VALUE_SLOTS;
 
-// Some entry of value v names an object that a device of w may not name.
-fn is_strange<'a>(
-    counts: Counts,
-    count: &'a [u8; VALUE_SLOTS],
-    entries: &'a [u8; ENTRY_SLOTS],
-    fine: &[u64; OBJECT_SLOTS],
-    w: u64,
-    v: usize,
-) -> bool
-    requires { ⌜ ValuesOk counts (now count) (now entries) ⌝ }
-    requires { ⌜ v ≤ counts .values ⌝ }
-    ensures { λ r.
-        ⌜ (r ≡ false
-        → NoStrange (now (entries .entry)) (now (fine .entry)) w v (getD (now (count .entry)) v 0 + 1)) ⌝ }
+// The values, as digits of a word, that a device in their words of `done` is not safe with.
+fn doubts<'a>(values: u8, done: &'a [u64; VALUE_SLOTS], safe: &'a [u64; VALUE_SLOTS]) -> u64
+    requires { ⌜ values ≤ mostValues ⌝ }
+    ensures { λ r. ⌜ Spared (now (done .entry)) (now (safe .entry)) r (values + 1) ⌝ }
 {
-    let most = count[v] as usize;
-    let mut j = 1;
-    while j <= most {
-        let o = entries[ENTRY_BYTES * (ENTRY_ROOM * v + j)] as usize;
-        if (fine[o] | w) != fine[o] {
-            return true;
-        }
-        j += 1;
-    }
-    false
-}
-
-// The values, as digits of a word, of which an entry is to be looked at.
-fn doubts<'a>(
-    counts: Counts,
-    count: &'a [u8; VALUE_SLOTS],
-    entries: &'a [u8; ENTRY_SLOTS],
-    done: &[u64; VALUE_SLOTS],
-    fine: &[u64; OBJECT_SLOTS],
-) -> u64
-    requires { ⌜ ValuesOk counts (now count) (now entries) ⌝ }
-    ensures { λ r.
-        ⌜ Doubts (now (count .entry)) (now (entries .entry)) (now (done .entry)) (now (fine .entry)) r
-        (counts .values + 1) ⌝ }
-{
-    let last = counts.values as usize;
+    let last = values as usize;
     let mut q = 0u64;
     let mut v = 0;
     while v <= last {
-        let strange = is_strange(counts, count, entries, fine, done[v], v);
+        let s = safe[v];
+        let strange = (s | done[v]) != s;
         q = q | words::pick(strange, words::power(v + FIRST_VALUE));
         v += 1;
     }
@@ -82,15 +47,17 @@ fn look<'a>(
     count: &'a [u8; VALUE_SLOTS],
     entries: &'a [u8; ENTRY_SLOTS],
     known: &[u64; OBJECT_SLOTS],
-    done: &[u64; VALUE_SLOTS],
+    done: &'a [u64; VALUE_SLOTS],
     fine: &[u64; OBJECT_SLOTS],
+    safe: &'a [u64; VALUE_SLOTS],
 ) -> Finding
     requires { ⌜ ValuesOk counts (now count) (now entries) ⌝ }
+    requires { ⌜ Safe (now count) (now entries) (now fine) (now safe) (counts .values + 1) ⌝ }
     ensures { λ r.
         ⌜ Looked (now (count .entry)) (now (entries .entry)) (now (known .entry)) (now (fine .entry)) counts
         (now (done .entry)) r ⌝ }
 {
-    let q = doubts(counts, count, entries, done, fine);
+    let q = doubts(counts.values, done, safe);
     if q == 0 {
         return Finding::Nothing;
     }
@@ -107,8 +74,8 @@ pub fn is_found(s: Finding) -> bool
     }
 }
 
-// An entry in the closure that its device may not have. After one sweep what is found is in the closure already; what
-// is not found may still come.
+// An entry in the closure that its device may not have. What is found where the sweeps stopped is in the closure
+// already; what is not found there may still come.
 fn answer<'a>(
     counts: Counts,
     kind: &'a [u8; OBJECT_SLOTS],
@@ -128,10 +95,11 @@ fn answer<'a>(
         → Answers (sceneOf d counts (now (kind .entry)) (now (class .entry)) (now (owner .entry)) (now (count .entry))
         (now (entries .entry)) true (view room (now (area .entry)))) (λ c e. bad c (e .object)) r) ⌝ }
 {
+    let safe = fine::of_values(counts, count, entries, fine);
     let mut known = begin(counts, kind, class, owner, area, room);
     let mut done = [0u64; VALUE_SLOTS];
     let mut seen = [0u64; OBJECT_SLOTS];
-    sweep(
+    let stopped = settle_until(
         counts,
         kind,
         count,
@@ -139,23 +107,26 @@ fn answer<'a>(
         &mut known,
         &mut done,
         &mut seen,
-        true,
+        &safe,
     );
-    let early = look(counts, count, entries, &known, &done, fine);
+    let early = look(counts, count, entries, &known, &done, fine, &safe);
     if is_found(early) {
         return early;
     }
-    settle(
-        counts,
-        kind,
-        count,
-        entries,
-        &mut known,
-        &mut done,
-        &mut seen,
-        true,
-    );
-    look(counts, count, entries, &known, &done, fine)
+    if stopped {
+        settle(
+            counts,
+            kind,
+            count,
+            entries,
+            &mut known,
+            &mut done,
+            &mut seen,
+            true,
+        );
+        return look(counts, count, entries, &known, &done, fine, &safe);
+    }
+    early
 }
 
 // Question 19: an entry in the closure that crosses, or nothing.

@@ -4,6 +4,7 @@ pub mod answer;
 pub mod area;
 pub mod begin;
 pub mod described;
+pub mod early;
 pub mod fine;
 pub mod grow;
 pub mod rules;

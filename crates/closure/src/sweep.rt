@@ -15,7 +15,7 @@ use model::OBJECT_SLOTS;
 use model::VALUE_SLOTS;
 
 // One more than the largest word of devices.
-const DEVICE_WORDS: u64 = 65536;
+pub const DEVICE_WORDS: u64 = 65536;
 
 // Every pair of a descriptor whose word is x: whether there was anything to do.
 fn pairs<'a>(
@@ -62,7 +62,7 @@ fn pairs<'a>(
 
 // The next descriptor, at o or above, whose word changed since it was visited last; if there is none, the one past the
 // last.
-fn changed<'a>(
+pub fn changed<'a>(
     known: &'a [u64; OBJECT_SLOTS],
     seen: &'a [u64; OBJECT_SLOTS],
     o: usize,
@@ -84,7 +84,7 @@ fn changed<'a>(
 }
 
 // Descriptor o: whether there was anything to do.
-fn visit<'a>(
+pub fn visit<'a>(
     counts: Counts,
     kind: &'a [u8; OBJECT_SLOTS],
     count: &'a [u8; VALUE_SLOTS],

@@ -1,35 +1,38 @@
--- `closure::answer::doubts` meets its contract: values below v are in, or not strange. Assumes nothing.
-use mathlib.Core.Bool.{cond}
-use mathlib.Core.Path.{ap, _∙_}
+-- `closure::answer::doubts` meets its contract: values below v are in, or have no device too many. Assumes nothing.
+use lib.Bits.{bitOr}
+use lib.Dec.{eqb}
+use lib.ListN.{getD}
+use mathlib.Core.Bool.{cond, not}
+use mathlib.Core.Path.{refl, ap, _∙_}
 use native.Mathlib.Omega.{arith}
 use Prim.Native.Nat.{ℕ, _≤_, _-_, _+_}
 use denote.Ref.{now}
 use borrow.Author.Needs.{needs}
-use Rattle.closure.specs.Search.{Doubts}
-use Rattle.closure.proofs.Finding.{doubts-more}
+use Rattle.closure.specs.Search.{Spared}
+use Rattle.closure.proofs.Finding.{spared-more}
 use Rattle.closure.proofs.answer.doubts.Statement.{statement}
 use Rattle.closure.proofs.answer.doubts.Tie as tie
 
 abbrev Inv-loop : tie.InvT-loop
-Inv-loop counts count entries done fine last q₀ v₀ q v = (v ≤ last + 1) × Doubts count entries done fine q v
+Inv-loop values done safe last q₀ v₀ q v = (v ≤ last + 1) × Spared done safe q v
 
 abbrev μ-loop : tie.MeasureT-loop
-μ-loop counts count entries done fine last q₀ v₀ q v = last + 1 - v
-
-cast-last : tie.Need-cast-last Inv-loop μ-loop
-cast-last c = search needs
+μ-loop values done safe last q₀ v₀ q v = last + 1 - v
 
 loop-holds : tie.Need-loop-holds Inv-loop μ-loop
 loop-holds c = (omega arith, λ v h. absurd (omega arith))
 
-mul-is-strange : tie.Need-mul-is-strange Inv-loop μ-loop
-mul-is-strange c = omega arith
+mul-s : tie.Need-mul-s Inv-loop μ-loop
+mul-s c = omega arith
 
-element-copy-out-is-strange : tie.Need-element-copy-out-is-strange Inv-loop μ-loop
-element-copy-out-is-strange c = omega arith
+element-copy-out-s : tie.Need-element-copy-out-s Inv-loop μ-loop
+element-copy-out-s c = omega arith
 
-is-strange-requires : tie.Need-is-strange-requires Inv-loop μ-loop
-is-strange-requires c κs = (c .before .before .before .before .pre, omega arith)
+mul-strange : tie.Need-mul-strange Inv-loop μ-loop
+mul-strange c = omega arith
+
+element-copy-out-strange : tie.Need-element-copy-out-strange Inv-loop μ-loop
+element-copy-out-strange c = omega arith
 
 add-power : tie.Need-add-power Inv-loop μ-loop
 add-power c = omega arith
@@ -48,15 +51,13 @@ loop-less c = omega arith
 
 loop-again : tie.Need-loop-again Inv-loop μ-loop
 loop-again c =
-    let a = c .before .before .before .before .before .before .before in
+    let a = c .before .before .before .before .before .before in
     let b = c .before .before .before .before .before .loop in
-    let t = c .before .before .is-strange in (
+    let w = getD (now (a .args .safe)) (b .v) 0 in
+    let t = not (eqb (bitOr w (getD (now (a .args .done)) (b .v) 0)) w) in (
       omega arith,
-      doubts-more (now (a .args .count)) (now (a .args .entries)) (now (a .args .done)) (now (a .args .fine)) (b .q)
-          (b .v)
-          (c .pick .result) (t .result)
-          (c .pick .ensures ∙ ap (λ (x : ℕ). cond (t .result) x 0) (c .before .power .ensures)) (t .ensures)
-          (b .inv .1),
+      spared-more (now (a .args .done)) (now (a .args .safe)) (b .q) (b .v) (c .pick .result) t
+          (c .pick .ensures ∙ ap (λ (x : ℕ). cond t x 0) (c .before .power .ensures)) refl (b .inv .1),
     )
 
 returns : tie.Need-returns Inv-loop μ-loop
@@ -70,11 +71,11 @@ doubts-spec =
     (tie.spec
     Inv-loop
     μ-loop
-    cast-last
     loop-holds
-    mul-is-strange
-    element-copy-out-is-strange
-    is-strange-requires
+    mul-s
+    element-copy-out-s
+    mul-strange
+    element-copy-out-strange
     add-power
     power-requires
     pick-requires

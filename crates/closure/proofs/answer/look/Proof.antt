@@ -13,8 +13,8 @@ returns : tie.Need-returns
 returns c =
     let a = c .before .before in
     looked-none (a .args .counts) (now (a .args .count)) (now (a .args .entries)) (now (a .args .known))
-    (now (a .args .done)) (now (a .args .fine)) (c .before .doubts .result) (c .before .doubts .ensures)
-    (c .if1 .taken)
+    (now (a .args .done)) (now (a .args .fine)) (now (a .args .safe)) (c .before .doubts .result) (a .pre .1)
+    (c .before .doubts .ensures) (c .if1 .taken)
 
 find-requires : tie.Need-find-requires
 find-requires c κs = search needs
@@ -23,7 +23,7 @@ returns-2 : tie.Need-returns-2
 returns-2 c =
     let a = c .before .before .before in
     looked-found (a .args .counts) (now (a .args .count)) (now (a .args .entries)) (now (a .args .known))
-    (now (a .args .done)) (now (a .args .fine)) (c .before .before .doubts .result)
+    (now (a .args .done)) (now (a .args .fine)) (now (a .args .safe)) (c .before .before .doubts .result) (a .pre .1)
     (c .before .before .doubts .ensures) (c .find .result) (c .find .ensures)
 
 pub look-spec : {M : Type 1} → statement M

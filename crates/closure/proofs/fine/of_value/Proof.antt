@@ -1,5 +1,5 @@
--- `closure::answer::is_strange` meets its contract: no entry below j is strange. Assumes nothing.
-use mathlib.Core.Bool.{true≢false}
+-- `closure::fine::of_value` meets its contract: the devices left may name the objects of the entries below j. Assumes
+-- nothing.
 use mathlib.Core.Path.{refl}
 use native.Mathlib.Omega.{arith}
 use Prim.Native.Nat.{_≤_, _-_, _+_}
@@ -9,15 +9,15 @@ use Rattle.model.specs.Config.{entryPlace}
 use Rattle.closure.specs.Scene.{EntryOk}
 use Rattle.closure.specs.Search.{NoStrange}
 use Rattle.closure.proofs.Ranges.{entry-ok}
-use Rattle.closure.proofs.Finding.{strange-more}
-use Rattle.closure.proofs.answer.is_strange.Statement.{statement}
-use Rattle.closure.proofs.answer.is_strange.Tie as tie
+use Rattle.closure.proofs.Finding.{safe-more}
+use Rattle.closure.proofs.fine.of_value.Statement.{statement}
+use Rattle.closure.proofs.fine.of_value.Tie as tie
 
 abbrev Inv-loop : tie.InvT-loop
-Inv-loop count entries fine w v most j₀ j = (1 ≤ j) × (j ≤ most + 1) × NoStrange entries fine w v j
+Inv-loop count entries fine v most w₀ j₀ w j = (1 ≤ j) × (j ≤ most + 1) × NoStrange entries fine w v j
 
 abbrev μ-loop : tie.MeasureT-loop
-μ-loop count entries fine w v most j₀ j = most + 1 - j
+μ-loop count entries fine v most w₀ j₀ w j = most + 1 - j
 
 -- in the loop entry j of the value is there
 at-entry : (c : tie.In-loop Inv-loop μ-loop)
@@ -54,44 +54,34 @@ element-copy-out-o c = omega (arith, at-entry c .place)
 cast-o : tie.Need-cast-o Inv-loop μ-loop
 cast-o c = omega (arith, at-entry (c .before) .object)
 
-mul-if1 : tie.Need-mul-if1 Inv-loop μ-loop
-mul-if1 c = omega (arith, at-entry (c .before) .object)
+mul-w : tie.Need-mul-w Inv-loop μ-loop
+mul-w c = omega (arith, at-entry (c .before) .object)
 
-element-copy-out-if1 : tie.Need-element-copy-out-if1 Inv-loop μ-loop
-element-copy-out-if1 c = omega (arith, at-entry (c .before) .object)
-
-mul-if1-2 : tie.Need-mul-if1-2 Inv-loop μ-loop
-mul-if1-2 c = omega (arith, at-entry (c .before .before) .object)
-
-element-copy-out-if1-2 : tie.Need-element-copy-out-if1-2 Inv-loop μ-loop
-element-copy-out-if1-2 c = omega (arith, at-entry (c .before .before) .object)
-
-returns : tie.Need-returns Inv-loop μ-loop
-returns c = λ e. absurd (true≢false e)
+element-copy-out-w : tie.Need-element-copy-out-w Inv-loop μ-loop
+element-copy-out-w c = omega (arith, at-entry (c .before) .object)
 
 add-j : tie.Need-add-j Inv-loop μ-loop
-add-j c = omega (arith, at-entry (c .before .before .before .before) .place)
+add-j c = omega (arith, at-entry (c .before .before) .place)
 
 loop-less : tie.Need-loop-less Inv-loop μ-loop
 loop-less c = omega arith
 
 loop-again : tie.Need-loop-again Inv-loop μ-loop
 loop-again c =
-    let a = c .before .before .before .before .before .before .before in
-    let b = c .before .before .before .before .before .loop in (
+    let a = c .before .before .before .before .before in
+    let b = c .before .before .before .loop in (
       omega arith,
       omega arith,
-      strange-more (now (a .args .entries)) (now (a .args .fine)) (a .args .w) (a .args .v) (b .j) _ refl (c .if1 .left)
-          (b .inv .2),
+      safe-more (now (a .args .entries)) (now (a .args .fine)) (b .w) (a .args .v) (b .j) _ refl (b .inv .2),
     )
 
-returns-2 : tie.Need-returns-2 Inv-loop μ-loop
-returns-2 c =
+returns : tie.Need-returns Inv-loop μ-loop
+returns c =
     let b = c .before .loop in
-    λ e i n l h. b .inv .2 i n l (omega arith)
+    λ i n l h. b .inv .2 i n l (omega arith)
 
-pub is-strange-spec : {M : Type 1} → statement M
-is-strange-spec =
+pub of-value-spec : {M : Type 1} → statement M
+of-value-spec =
     tie.close
     (tie.spec
     Inv-loop
@@ -104,12 +94,9 @@ is-strange-spec =
     mul-o-2
     element-copy-out-o
     cast-o
-    mul-if1
-    element-copy-out-if1
-    mul-if1-2
-    element-copy-out-if1-2
-    returns
+    mul-w
+    element-copy-out-w
     add-j
     loop-less
     loop-again
-    returns-2)
+    returns)
