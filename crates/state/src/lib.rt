@@ -12,7 +12,9 @@ use model::MOST_DRIVERS;
 
 // The area (document 01, 'State area'): the status of partitions 0 to 63, a byte for each driver, a byte for each
 // device, and a record for each object: its partition, then its contents.
-pub const PARTITIONS: usize = 64;
+pub const MOST_PARTITION: u8 = 63;
+
+pub const PARTITIONS: usize = MOST_PARTITION as usize + 1;
 
 pub const DRIVER_BYTES: usize = MOST_DRIVERS as usize;
 
