@@ -7,30 +7,12 @@ use mathlib.Core.Bool.{Bool, true, false, not, _&&_, and-false, and-true, and-as
 use native.Mathlib.Numerals.{add-one}
 use native.Mathlib.Omega.{arith}
 use native.Mathlib.Decide.{ℕ-discrete}
-use lib.ListN.{length, getD, take, drop, List·getD-eq-default}
+use lib.ListN.{length, getD, take}
 use lib.Seq.{take-suc, take-all}
 use lib.Dec.{eqb}
 use borrow.Author.Tests.{eq-eqb, ne-eqb, not-true, not-false}
 use Rattle.model.specs.Base.{nth, below, all}
-use Rattle.model.specs.Config.{mostDrivers, mostDevices}
-use Rattle.model.specs.State.{
-  partitionCount,
-  recordBytes,
-  driversFrom,
-  devicesFrom,
-  recordsFrom,
-  driverPlace,
-  devicePlace,
-  objectPlace,
-  State,
-  statusOf,
-  driverIn,
-  deviceIn,
-  objectIn,
-  window,
-  partitionsIn,
-  view,
-}
+use Rattle.model.specs.State.{State, driverIn, objectIn}
 use Rattle.model.specs.Operation.{objectAt, secondAt, formAt}
 use Rattle.model.specs.Gate.{orElse}
 use Rattle.model.specs.Questions.{
@@ -53,8 +35,6 @@ use Rattle.model.specs.Questions.{
   ask,
   judge,
 }
-use Rattle.model.proofs.Lists.{nth-past}
-use Rattle.model.proofs.StateBytes.{status-byte, driver-byte, device-byte, object-byte}
 use Rattle.model.specs.declared.Family.{Family}
 use Rattle.model.specs.declared.Family.the-variants.{Write, Copy, Create, Destroy, Activate, Deactivate}
 use Rattle.model.specs.declared.Actor.{Actor}
@@ -155,66 +135,6 @@ not-no-eqb q n h = rw (ne-eqb q n h)
 
 pub not-yes-eqb : (q n : ℕ) → q ≡ n → not (not (eqb q n)) ≡ true
 not-yes-eqb q n h = rw (eq-eqb q n h)
-
--- the columns of an area
-window-length : (k : ℕ) (s : List ℕ) → length (window k s) ≡ k
-window-length zero s = refl
-window-length (suc k) [] = ap suc (window-length k [])
-window-length (suc k) (x ∷ s) = ap suc (window-length k s)
-
-partitions-length : (k : ℕ) (s : List ℕ) → length (partitionsIn k s) ≡ k
-partitions-length zero s = refl
-partitions-length (suc k) s = ap suc (partitions-length k (drop recordBytes s))
-
-module _ (room : ℕ) (s : List ℕ) where
-  pub drivers-length : length ((view room s) .driver) ≡ mostDrivers
-  unfolding view
-  drivers-length = window-length mostDrivers (drop driversFrom s)
-
-  pub devices-length : length ((view room s) .device) ≡ mostDevices
-  unfolding view
-  devices-length = window-length mostDevices (drop devicesFrom s)
-
-  pub objects-length : length ((view room s) .object) ≡ room
-  unfolding view
-  objects-length = partitions-length room (drop recordsFrom s)
-
-  pub status-past : (p : ℕ) → partitionCount ≤ p → 0 ≡ statusOf (view room s) p
-  unfolding view
-  status-past p h =
-      sym (List·getD-eq-default (window partitionCount s) 0 {n = p} (omega (arith, window-length partitionCount s)))
-
-  pub status-at : (p x : ℕ) → p < partitionCount → x ≡ getD s p 0 → x ≡ statusOf (view room s) p
-  status-at p x h e = e ∙ sym (status-byte room s p h)
-
-  pub driver-none : (d : ℕ) → d ≡ 0 → 0 ≡ driverIn (view room s) d
-  driver-none d e = rw e
-
-  pub driver-past : (d : ℕ) → mostDrivers < d → 0 ≡ driverIn (view room s) d
-  driver-past d h = sym (nth-past ((view room s) .driver) d 0 (omega (arith, drivers-length)))
-
-  pub driver-at : (d x : ℕ) → (d ≡ 0 → ⊥) → d ≤ mostDrivers → x ≡ getD s (driverPlace d) 0
-      → x ≡ driverIn (view room s) d
-  driver-at d x h k e = e ∙ sym (driver-byte room s d (omega arith) k)
-
-  pub device-none : (c : ℕ) → c ≡ 0 → 0 ≡ deviceIn (view room s) c
-  device-none c e = rw e
-
-  pub device-past : (c : ℕ) → mostDevices < c → 0 ≡ deviceIn (view room s) c
-  device-past c h = sym (nth-past ((view room s) .device) c 0 (omega (arith, devices-length)))
-
-  pub device-at : (c x : ℕ) → (c ≡ 0 → ⊥) → c ≤ mostDevices → x ≡ getD s (devicePlace c) 0
-      → x ≡ deviceIn (view room s) c
-  device-at c x h k e = e ∙ sym (device-byte room s c (omega arith) k)
-
-  pub object-none : (n : ℕ) → n ≡ 0 → 0 ≡ objectIn (view room s) n
-  object-none n e = rw e
-
-  pub object-past : (n : ℕ) → room < n → 0 ≡ objectIn (view room s) n
-  object-past n h = sym (nth-past ((view room s) .object) n 0 (omega (arith, objects-length)))
-
-  pub object-at : (n x : ℕ) → (n ≡ 0 → ⊥) → n ≤ room → x ≡ getD s (objectPlace n) 0 → x ≡ objectIn (view room s) n
-  object-at n x h k e = e ∙ sym (object-byte room s n (omega arith) k)
 
 -- what a loop reads of item i
 module _ (op : Operation) (i : ℕ) where

@@ -5,9 +5,8 @@ pub mod names;
 pub mod places;
 
 ghost use mathlib.Core.Path.{_≡_};
-ghost use Prim.Native.Nat.{_≤_};
-ghost use Rattle.model.specs.Number.{mostNumber};
-ghost use Rattle.model.specs.State.{view};
+ghost use lib.ListN.{length};
+ghost use Rattle.model.specs.State.{areaLength, view};
 ghost use Rattle.model.specs.Operation.{familyOf, actorOf};
 ghost use Rattle.questions.specs.Items.{firstNo};
 use model::Config;
@@ -15,7 +14,7 @@ use model::Operation;
 
 // The number of the first of the questions 11 to 17 that is answered with no, or 0.
 pub fn judge(config: Config, area: &[u8], room: usize, op: Operation) -> u8
-    requires { ⌜ room ≤ mostNumber ⌝ }
+    requires { ⌜ length (now area) ≡ areaLength room ⌝ }
     ensures { λ r.
         ⌜ r ≡ firstNo config (view room (now (area .entry))) op (familyOf (op .code)) (actorOf (op .code)) 0 ⌝ }
 {

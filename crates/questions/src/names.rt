@@ -3,7 +3,6 @@ ghost use mathlib.Core.Path.{_≡_};
 ghost use Rattle.model.specs.Questions.{q11, q12, q13};
 ghost use Rattle.questions.specs.Items.{upTo, actorNamed, partitionNamed, named, itemNamed};
 ghost use Rattle.questions.specs.Items.{changedIn, apart, fits, itemFitting, namesNo};
-use crate::lookups::MOST_PARTITION;
 use crate::lookups::ask;
 use crate::lookups::byte_at;
 use crate::lookups::from_1_to;
@@ -13,6 +12,7 @@ use model::Config;
 use model::Counts;
 use model::Family;
 use model::Operation;
+use state::MOST_PARTITION;
 
 // The driver or device s exists, where the code names one.
 fn actor_named(counts: Counts, a: Actor, s: usize) -> bool

@@ -1,13 +1,12 @@
 -- `gate::call::judge_all` meets its contract: one law for each way out. Assumes nothing.
 use borrow.Author.Tests.{not-true, not-false}
 use borrow.Author.Needs.{needs}
-use Rattle.gate.proofs.Readying
 use Rattle.gate.proofs.Calling
 use Rattle.gate.proofs.call.judge_all.Statement.{statement}
 use Rattle.gate.proofs.call.judge_all.Tie as tie
 
 judge-requires : tie.Need-judge-requires
-judge-requires c κs = let a = c .before in Readying.room-small (a .args .config) (a .args .room) (a .pre .0 .records)
+judge-requires c κs = c .before .pre .0 .long
 
 returns : tie.Need-returns
 returns c = Calling.no-first _ _ _ (c .before .judge .ensures) (c .if1 .taken)

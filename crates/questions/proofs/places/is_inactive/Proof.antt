@@ -9,14 +9,14 @@ use Rattle.questions.proofs.places.is_inactive.Tie as tie
 enum-told : tie.Need-enum-told
 enum-told c = search needs
 
-driver-in-requires : tie.Need-driver-in-requires
-driver-in-requires c κs = search needs
+driver-requires : tie.Need-driver-requires
+driver-requires c κs = search needs
 
 enum-told-2 : tie.Need-enum-told-2
 enum-told-2 c = search needs
 
-device-in-requires : tie.Need-device-in-requires
-device-in-requires c κs = search needs
+device-requires : tie.Need-device-requires
+device-requires c κs = search needs
 
 enum-told-3 : tie.Need-enum-told-3
 enum-told-3 c = search needs
@@ -25,11 +25,10 @@ items-inactive-requires : tie.Need-items-inactive-requires
 items-inactive-requires c κs = search needs
 
 returns : tie.Need-returns
-returns c = rw (c .before .enum-told .given .1, c .driver-in .ensures (c .before .before .before .before .args .room))
+returns c = rw (c .before .enum-told .given .1, c .driver .ensures)
 
 returns-2 : tie.Need-returns-2
-returns-2 c =
-    rw (c .before .enum-told2 .given .1, c .device-in .ensures (c .before .before .before .before .args .room))
+returns-2 c = rw (c .before .enum-told2 .given .1, c .device .ensures)
 
 returns-3 : tie.Need-returns-3
 returns-3 c = rw (c .before .enum-told3 .given .1) (c .items-inactive .ensures ∙ Laws.inactive-same _ _)
@@ -39,9 +38,9 @@ is-inactive-spec =
     tie.close
     (tie.spec
     enum-told
-    driver-in-requires
+    driver-requires
     enum-told-2
-    device-in-requires
+    device-requires
     enum-told-3
     items-inactive-requires
     returns

@@ -21,13 +21,13 @@ loop-holds c = (search needs, Laws.up-start _)
 number-of-requires : tie.Need-number-of-requires Inv-loop μ-loop
 number-of-requires c κs = search needs
 
-object-in-requires : tie.Need-object-in-requires Inv-loop μ-loop
-object-in-requires c κs = search needs
+object-requires : tie.Need-object-requires Inv-loop μ-loop
+object-requires c κs = search needs
 
 returns : tie.Need-returns Inv-loop μ-loop
 returns c =
     Laws.up-stop _ _ _ (c .before .before .before .before .before .before .loop-test .taken)
-    (Laws.item-inactive _ _ _ _ _ (c .before .before .number-of .ensures) (c .before .object-in .ensures))
+    (Laws.item-inactive _ _ _ _ _ (c .before .before .number-of .ensures) (c .before .object .ensures))
     (Laws.no-eqb _ _ (c .if1 .taken))
 
 add-i : tie.Need-add-i Inv-loop μ-loop
@@ -40,7 +40,7 @@ loop-again : tie.Need-loop-again Inv-loop μ-loop
 loop-again c = (
   search needs,
   Laws.up-go _ _ (c .before .before .before .before .before .before .before .loop .inv .1)
-      (Laws.item-inactive _ _ _ _ _ (c .before .before .number-of .ensures) (c .before .object-in .ensures))
+      (Laws.item-inactive _ _ _ _ _ (c .before .before .number-of .ensures) (c .before .object .ensures))
       (Laws.yes-eqb _ _ (c .if1 .left)),
 )
 
@@ -55,7 +55,7 @@ items-inactive-spec =
     μ-loop
     loop-holds
     number-of-requires
-    object-in-requires
+    object-requires
     returns
     add-i
     loop-less

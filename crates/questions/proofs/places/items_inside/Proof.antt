@@ -24,14 +24,14 @@ number-of-requires c κs = search needs
 number-of-requires-2 : tie.Need-number-of-requires-2 Inv-loop μ-loop
 number-of-requires-2 c κs = search needs
 
-object-in-requires : tie.Need-object-in-requires Inv-loop μ-loop
-object-in-requires c κs = search needs
+object-requires : tie.Need-object-requires Inv-loop μ-loop
+object-requires c κs = search needs
 
 cast-mine : tie.Need-cast-mine Inv-loop μ-loop
 cast-mine c = search needs
 
-object-in-requires-2 : tie.Need-object-in-requires-2 Inv-loop μ-loop
-object-in-requires-2 c κs = search needs
+object-requires-2 : tie.Need-object-requires-2 Inv-loop μ-loop
+object-requires-2 c κs = search needs
 
 cast-other : tie.Need-cast-other Inv-loop μ-loop
 cast-other c = search needs
@@ -45,8 +45,8 @@ returns c =
     (c .before .before .before .before .before .before .before .before .before .before .before .before .loop-test
     .taken) (Laws.item-inside _ _ _ _ _ _ _ _ _ (c .before .item-inside .ensures)
     (c .before .before .before .before .before .before .before .before .number-of .ensures)
-    (c .before .before .before .before .number-of2 .ensures) (c .before .before .before .object-in .ensures)
-    (c .before .before .object-in2 .ensures)) (c .if1 .taken)
+    (c .before .before .before .before .number-of2 .ensures) (c .before .before .before .object .ensures)
+    (c .before .before .object2 .ensures)) (c .if1 .taken)
 
 add-i : tie.Need-add-i Inv-loop μ-loop
 add-i c = search needs
@@ -61,8 +61,8 @@ loop-again c = (
       (c .before .before .before .before .before .before .before .before .before .before .before .before .before .loop
       .inv .1) (Laws.item-inside _ _ _ _ _ _ _ _ _ (c .before .item-inside .ensures)
       (c .before .before .before .before .before .before .before .before .number-of .ensures)
-      (c .before .before .before .before .number-of2 .ensures) (c .before .before .before .object-in .ensures)
-      (c .before .before .object-in2 .ensures)) (c .if1 .left),
+      (c .before .before .before .before .number-of2 .ensures) (c .before .before .before .object .ensures)
+      (c .before .before .object2 .ensures)) (c .if1 .left),
 )
 
 returns-2 : tie.Need-returns-2 Inv-loop μ-loop
@@ -77,9 +77,9 @@ items-inside-spec =
     loop-holds
     number-of-requires
     number-of-requires-2
-    object-in-requires
+    object-requires
     cast-mine
-    object-in-requires-2
+    object-requires-2
     cast-other
     item-inside-requires
     returns

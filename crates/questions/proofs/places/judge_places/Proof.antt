@@ -38,8 +38,7 @@ returns c =
       c .before .ask3 .ensures,
       c .before .before .ask2 .ensures,
       c .before .before .before .ask .ensures,
-      c .before .before .before .before .before .before .before .status-fits .ensures
-          (c .before .before .before .before .before .before .before .before .before .args .room),
+      c .before .before .before .before .before .before .before .status-fits .ensures,
       c .before .before .before .before .before .before .left-empty .ensures,
       c .before .before .before .before .before .activity-fits .ensures,
       c .before .before .before .before .placed .ensures,

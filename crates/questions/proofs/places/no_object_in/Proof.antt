@@ -7,6 +7,7 @@ use native.Mathlib.Omega.{arith}
 use lib.ListN.{take}
 use borrow.Author.Needs.{needs}
 use Rattle.model.specs.State.{view}
+use Rattle.state.proofs.Places.{view-shape}
 use Rattle.questions.specs.Items.{noneIs}
 use Rattle.questions.proofs.Laws
 use Rattle.questions.proofs.places.no_object_in.Statement.{statement}
@@ -21,23 +22,20 @@ abbrev μ-loop : tie.MeasureT-loop
 loop-holds : tie.Need-loop-holds Inv-loop μ-loop
 loop-holds c = (search needs, Laws.none-start ((view (c .before .args .room) (c .before .args .area .now)) .object) _ 0)
 
-add-object-in : tie.Need-add-object-in Inv-loop μ-loop
-add-object-in c = search needs
+add-object : tie.Need-add-object Inv-loop μ-loop
+add-object c = search needs
 
-object-in-requires : tie.Need-object-in-requires Inv-loop μ-loop
-object-in-requires c κs = search needs
+object-requires : tie.Need-object-requires Inv-loop μ-loop
+object-requires c κs = search needs
 
 cast-q : tie.Need-cast-q Inv-loop μ-loop
 cast-q c = search needs
 
 returns : tie.Need-returns Inv-loop μ-loop
 returns c =
+    let a = c .before .before .before .before .before .args in
     Laws.none-stop _ _ (c .before .before .before .loop .i) _
-    (omega (
-      arith,
-      Laws.objects-length (c .before .before .before .before .before .args .room)
-          (c .before .before .before .before .before .args .area .now),
-    )) (c .before .object-in .ensures) (c .if1 .taken)
+    (omega (arith, view-shape (a .room) (a .area .now) .objects)) (c .before .object .ensures) (c .if1 .taken)
 
 add-i : tie.Need-add-i Inv-loop μ-loop
 add-i c = search needs
@@ -46,25 +44,19 @@ loop-less : tie.Need-loop-less Inv-loop μ-loop
 loop-less c = search needs
 
 loop-again : tie.Need-loop-again Inv-loop μ-loop
-loop-again c = (
-  search needs,
-  Laws.none-go _ _ (c .before .before .before .loop .i) _
-      (omega (
-        arith,
-        Laws.objects-length (c .before .before .before .before .before .args .room)
-            (c .before .before .before .before .before .args .area .now),
-      )) (c .before .before .before .loop .inv .1)
-      (c .before .object-in .ensures) (c .if1 .left),
-)
+loop-again c =
+    let a = c .before .before .before .before .before .args in (
+      search needs,
+      Laws.none-go _ _ (c .before .before .before .loop .i) _
+          (omega (arith, view-shape (a .room) (a .area .now) .objects)) (c .before .before .before .loop .inv .1)
+          (c .before .object .ensures) (c .if1 .left),
+    )
 
 returns-2 : tie.Need-returns-2 Inv-loop μ-loop
 returns-2 c =
+    let a = c .before .before .before .args in
     Laws.none-end _ _ (c .before .loop .i)
-    (omega (
-      arith,
-      Laws.objects-length (c .before .before .before .args .room)
-          (c .before .before .before .args .area .now),
-    )) (c .before .loop .inv .1)
+    (omega (arith, view-shape (a .room) (a .area .now) .objects)) (c .before .loop .inv .1)
 
 pub no-object-in-spec : {M : Type 1} → statement M
 no-object-in-spec =
@@ -73,8 +65,8 @@ no-object-in-spec =
     Inv-loop
     μ-loop
     loop-holds
-    add-object-in
-    object-in-requires
+    add-object
+    object-requires
     cast-q
     returns
     add-i

@@ -19,8 +19,7 @@ returns : tie.Need-returns
 returns c =
     Laws.nothing-same (view (c .before .before .before .before .args .room)
     (c .before .before .before .before .args .area .now)) _
-    (c .before .before .no-driver-in .ensures (c .before .before .before .before .args .room))
-    (c .before .no-device-in .ensures (c .before .before .before .before .args .room)) (c .no-object-in .ensures)
+    (c .before .before .no-driver-in .ensures) (c .before .no-device-in .ensures) (c .no-object-in .ensures)
 
 pub nothing-in-spec : {M : Type 1} → statement M
 nothing-in-spec =

@@ -9,8 +9,8 @@ use Rattle.questions.proofs.places.placed.Tie as tie
 enum-told : tie.Need-enum-told
 enum-told c = search needs
 
-driver-in-requires : tie.Need-driver-in-requires
-driver-in-requires c κs = search needs
+driver-requires : tie.Need-driver-requires
+driver-requires c κs = search needs
 
 cast-p : tie.Need-cast-p
 cast-p c = search needs
@@ -29,8 +29,8 @@ items-inside-requires-2 c κs = search needs
 
 returns : tie.Need-returns
 returns c =
-    Laws.q17-driver _ _ _ _ (c .before .before .enum-told .given .1)
-    (c .before .driver-in .ensures (c .before .before .before .before .before .args .room)) (c .items-inside .ensures)
+    Laws.q17-driver _ _ _ _ (c .before .before .enum-told .given .1) (c .before .driver .ensures)
+    (c .items-inside .ensures)
 
 returns-2 : tie.Need-returns-2
 unfolding q17
@@ -44,7 +44,7 @@ placed-spec =
     tie.close
     (tie.spec
     enum-told
-    driver-in-requires
+    driver-requires
     cast-p
     items-inside-requires
     enum-told-2

@@ -14,20 +14,20 @@ enum-told-2 c = search needs
 enum-told-3 : tie.Need-enum-told-3
 enum-told-3 c = search needs
 
-status-of-requires : tie.Need-status-of-requires
-status-of-requires c κs = search needs
+status-requires : tie.Need-status-requires
+status-requires c κs = search needs
 
 enum-told-4 : tie.Need-enum-told-4
 enum-told-4 c = search needs
 
-status-of-requires-2 : tie.Need-status-of-requires-2
-status-of-requires-2 c κs = search needs
+status-requires-2 : tie.Need-status-requires-2
+status-requires-2 c κs = search needs
 
 enum-told-5 : tie.Need-enum-told-5
 enum-told-5 c = search needs
 
-status-of-requires-3 : tie.Need-status-of-requires-3
-status-of-requires-3 c κs = search needs
+status-requires-3 : tie.Need-status-requires-3
+status-requires-3 c κs = search needs
 
 enum-told-6 : tie.Need-enum-told-6
 enum-told-6 c = search needs
@@ -41,44 +41,44 @@ enum-told-8 c = search needs
 enum-told-9 : tie.Need-enum-told-9
 enum-told-9 c = search needs
 
-status-of-requires-4 : tie.Need-status-of-requires-4
-status-of-requires-4 c κs = search needs
+status-requires-4 : tie.Need-status-requires-4
+status-requires-4 c κs = search needs
 
 returns : tie.Need-returns
 unfolding q14
-returns c = λ room. rw (c .enum-told .given .1)
+returns c = rw (c .enum-told .given .1)
 
 returns-2 : tie.Need-returns-2
 unfolding q14
-returns-2 c = λ room. rw (c .enum-told2 .given .1)
+returns-2 c = rw (c .enum-told2 .given .1)
 
 returns-3 : tie.Need-returns-3
 unfolding q14
-returns-3 c = λ room. rw (c .before .enum-told3 .given .1, c .status-of .ensures room)
+returns-3 c = rw (c .before .enum-told3 .given .1, c .status .ensures)
 
 returns-4 : tie.Need-returns-4
 unfolding q14
-returns-4 c = λ room. rw (c .before .enum-told4 .given .1, c .status-of2 .ensures room)
+returns-4 c = rw (c .before .enum-told4 .given .1, c .status2 .ensures)
 
 returns-5 : tie.Need-returns-5
 unfolding q14
-returns-5 c = λ room. rw (c .before .enum-told5 .given .1, c .status-of3 .ensures room)
+returns-5 c = rw (c .before .enum-told5 .given .1, c .status3 .ensures)
 
 returns-6 : tie.Need-returns-6
 unfolding q14
-returns-6 c = λ room. rw (c .before .before .enum-told6 .given .1, c .enum-told7 .given .1)
+returns-6 c = rw (c .before .before .enum-told6 .given .1, c .enum-told7 .given .1)
 
 returns-7 : tie.Need-returns-7
 unfolding q14
-returns-7 c = λ room. rw (c .before .before .enum-told6 .given .1, c .enum-told8 .given .1)
+returns-7 c = rw (c .before .before .enum-told6 .given .1, c .enum-told8 .given .1)
 
 returns-8 : tie.Need-returns-8
 unfolding q14
 returns-8 c =
-    λ room. rw (
+    rw (
       c .before .before .before .enum-told6 .given .1,
       c .before .enum-told9 .given .1,
-      c .status-of4 .ensures room,
+      c .status4 .ensures,
     )
 
 pub status-fits-spec : {M : Type 1} → statement M
@@ -88,16 +88,16 @@ status-fits-spec =
     enum-told
     enum-told-2
     enum-told-3
-    status-of-requires
+    status-requires
     enum-told-4
-    status-of-requires-2
+    status-requires-2
     enum-told-5
-    status-of-requires-3
+    status-requires-3
     enum-told-6
     enum-told-7
     enum-told-8
     enum-told-9
-    status-of-requires-4
+    status-requires-4
     returns
     returns-2
     returns-3
