@@ -18,6 +18,7 @@ use model::ENTRY_BYTES;
 use model::ENTRY_SLOTS;
 use model::MOST_DEVICES;
 use model::OBJECT_SLOTS;
+use model::TRANSFER_KIND;
 use model::VALUE_SLOTS;
 
 // For each value the devices that read it with today's values; write entries do not count.
@@ -61,7 +62,7 @@ fn is_giving(entries: &[u8; ENTRY_SLOTS], write: bool, w: usize, at: usize, kind
 {
     let mode = entries[at + 1];
     let stored = rules::wide(entries[at + 2]);
-    let fits = (kind != 1) | (stored == w);
+    let fits = (kind != TRANSFER_KIND) | (stored == w);
     write & rules::is_writing(mode) & fits | !write & rules::is_reading(mode)
 }
 

@@ -15,6 +15,7 @@ ghost use Rattle.closure.specs.Search.{Parts, FineWord, Fines, NoStrange
 use model::Counts;
 use model::ENTRY_BYTES;
 use model::ENTRY_SLOTS;
+use model::HARDCODED_KIND;
 use model::OBJECT_SLOTS;
 use model::VALUE_SLOTS;
 
@@ -57,7 +58,7 @@ fn inside(
     ensures { λ r. ⌜ FineWord (crossing (now (kind .entry)) (view room (now (area .entry)))) devices o r ⌝ }
 {
     let p = rules::wide(area::object_in(area, room, o));
-    words::pick(kind[o] != 4, parts[p])
+    words::pick(kind[o] != HARDCODED_KIND, parts[p])
 }
 
 // Question 19: for each object the devices whose entries for it do not cross.

@@ -7,9 +7,15 @@ ghost use Rattle.model.specs.Config.{mostDevices, mostObjects, entryAt};
 ghost use Rattle.model.specs.State.{areaLength, view};
 ghost use Rattle.closure.specs.Scene.{In, EntryOk};
 ghost use Rattle.closure.specs.Rules.{holdsValue, readsMode, writesMode, opens, stores, starts, owned, crossing};
+use model::BOTH_MODE;
+use model::DEVICE_CLASS;
 use model::ENTRY_SLOTS;
+use model::HARDCODED_KIND;
 use model::MOST_ENTRIES;
 use model::OBJECT_SLOTS;
+use model::READ_MODE;
+use model::TRANSFER_KIND;
+use model::WRITE_MODE;
 
 // How many entries a value has room for.
 pub const ENTRY_ROOM: usize = MOST_ENTRIES as usize;
@@ -18,21 +24,21 @@ pub const ENTRY_ROOM: usize = MOST_ENTRIES as usize;
 fn holds_value(kind: u8) -> bool
     ensures { λ r. ⌜ r ≡ holdsValue kind ⌝ }
 {
-    (kind == 1) | (kind == 4)
+    (kind == TRANSFER_KIND) | (kind == HARDCODED_KIND)
 }
 
 // An entry of this mode reads.
 pub fn is_reading(mode: u8) -> bool
     ensures { λ r. ⌜ r ≡ readsMode mode ⌝ }
 {
-    (mode == 1) | (mode == 3)
+    (mode == READ_MODE) | (mode == BOTH_MODE)
 }
 
 // An entry of this mode writes.
 pub fn is_writing(mode: u8) -> bool
     ensures { λ r. ⌜ r ≡ writesMode mode ⌝ }
 {
-    (mode == 2) | (mode == 3)
+    (mode == WRITE_MODE) | (mode == BOTH_MODE)
 }
 
 // A byte as a place of a table.
@@ -67,7 +73,7 @@ pub fn is_storing<'a>(
     ensures { λ r. ⌜ r ≡ stores (now (kind .entry)) storing (entryAt (now (entries .entry)) at) ⌝ }
 {
     let o = entries[at] as usize;
-    storing & is_writing(entries[at + 1]) & (kind[o] == 1)
+    storing & is_writing(entries[at + 1]) & (kind[o] == TRANSFER_KIND)
 }
 
 // Object o is an active descriptor.
@@ -98,7 +104,7 @@ pub fn is_owned<'a>(
         o ⌝ }
 {
     let active = area::device_in(area, room, c) != 0;
-    active & ((kind[o] == 4) & (class[o] == 2) & (wide(owner[o]) == c))
+    active & ((kind[o] == HARDCODED_KIND) & (class[o] == DEVICE_CLASS) & (wide(owner[o]) == c))
 }
 
 // An entry of device c that names object o crosses.
@@ -109,5 +115,5 @@ pub fn is_crossing(kind: &[u8; OBJECT_SLOTS], area: &[u8], room: usize, c: usize
     requires { ⌜ o ≤ mostObjects ⌝ }
     ensures { λ r. ⌜ r ≡ crossing (now (kind .entry)) (view room (now (area .entry))) c o ⌝ }
 {
-    (kind[o] == 4) | (area::object_in(area, room, o) != area::device_in(area, room, c))
+    (kind[o] == HARDCODED_KIND) | (area::object_in(area, room, o) != area::device_in(area, room, c))
 }

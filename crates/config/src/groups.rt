@@ -11,6 +11,8 @@ use crate::fields::field_question;
 use crate::fields::read_field;
 use model::Counts;
 use model::DEVICE_SLOTS;
+use model::DRIVER_CLASS;
+use model::EXTERNAL_CLASS;
 use model::Field;
 use model::Head;
 use model::MOST_CLASS;
@@ -72,16 +74,16 @@ pub fn read_counts(s: &[u8]) -> Head
 fn owner_least(class: u8) -> u8
     ensures { λ r. ⌜ r ≡ ownerLeast class ⌝ }
 {
-    if class == 0 { 0 } else { 1 }
+    if class == EXTERNAL_CLASS { 0 } else { 1 }
 }
 
 fn owner_most(counts: Counts, class: u8) -> u8
     ensures { λ r. ⌜ r ≡ ownerMost counts class ⌝ }
 {
-    if class == 0 {
+    if class == EXTERNAL_CLASS {
         return 0;
     }
-    if class == 1 {
+    if class == DRIVER_CLASS {
         counts.drivers
     } else {
         counts.devices

@@ -11,8 +11,12 @@ ghost use Rattle.config.specs.Sound.{farPlace, upTo, tally, marks, markO
 ghost use Rattle.config.specs.Sound.{deviceOwned, mayName, entryPasses, allFrom, valuePasses};
 use model::Config;
 use model::Counts;
+use model::DEVICE_CLASS;
 use model::ENTRY_BYTES;
+use model::HARDCODED_KIND;
 use model::OBJECT_SLOTS;
+use model::READ_MODE;
+use model::TRANSFER_KIND;
 use model::entry_place;
 
 // What a column has at place i, and 0 past its end.
@@ -26,7 +30,7 @@ fn look(a: &[u8], i: usize) -> u8
 fn mark(kind: u8, class: u8, owner: u8, v: u8) -> u8
     ensures { λ r. ⌜ r ≡ markOf kind class owner v ⌝ }
 {
-    let hit = (kind == 4) & (class == 2) & (owner == v);
+    let hit = (kind == HARDCODED_KIND) & (class == DEVICE_CLASS) & (owner == v);
     if hit { 1 } else { 0 }
 }
 
@@ -78,7 +82,7 @@ fn each_has_one<'a>(
 fn is_device_owned(kind: u8, class: u8) -> bool
     ensures { λ r. ⌜ r ≡ (not (eqb kind 4) || eqb class 2) ⌝ }
 {
-    (kind != 4) | (class == 2)
+    (kind != HARDCODED_KIND) | (class == DEVICE_CLASS)
 }
 
 // Each of the objects 1 to n.
@@ -126,8 +130,8 @@ fn may_name<'a>(
     let k = look(kind, i);
     let c = look(class, i);
     let w = look(owner, i);
-    let own = ((1 <= o) & (o <= n)) & (c == 2) & (w == v);
-    own & (k != 4) & ((k != 1) | (mode == 1))
+    let own = ((1 <= o) & (o <= n)) & (c == DEVICE_CLASS) & (w == v);
+    own & (k != HARDCODED_KIND) & ((k != TRANSFER_KIND) | (mode == READ_MODE))
 }
 
 // The entry at a place of the table is one that the hardcoded value of device v may have.

@@ -14,7 +14,9 @@ use model::MOST_ENTRIES;
 use model::MOST_MODE;
 use model::OBJECT_SLOTS;
 use model::Reading;
+use model::TRANSFER_KIND;
 use model::VALUE_SLOTS;
+use model::WRITE_MODE;
 use model::entry_place;
 
 // The largest stored value: 0 unless the object is of kind 1 and the mode is 2 or 3.
@@ -23,10 +25,10 @@ fn stored_most(counts: Counts, kinds: &[u8; OBJECT_SLOTS], o: u8, mode: u8) -> u
     ensures { λ r. ⌜ r ≡ storedMost counts (now (kinds .entry)) o mode ⌝ }
 {
     let i = o as usize;
-    if kinds[i] != 1 {
+    if kinds[i] != TRANSFER_KIND {
         return 0;
     }
-    if mode < 2 { 0 } else { counts.values }
+    if mode < WRITE_MODE { 0 } else { counts.values }
 }
 
 // Entry j, from 1, of value v: object, mode, stored value. What `count` holds does not matter to it.

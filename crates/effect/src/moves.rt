@@ -11,7 +11,12 @@ ghost use Rattle.model.specs.declared.Config.{Config};
 ghost use Rattle.effect.specs.Moves.{movedAt, clearable, ownedBy, listed, moved};
 use crate::lists::number_at;
 use model::Config;
+use model::DEVICE_CLASS;
+use model::DRIVER_CLASS;
+use model::HARDCODED_KIND;
 use model::Operation;
+use state::DESTROYED;
+use state::EXISTING;
 use state::bytes::byte_at;
 use state::change::clear;
 use state::change::set_device;
@@ -40,7 +45,7 @@ fn is_clearable(clears: bool, kind: &[u8], n: usize) -> bool
     if !clears {
         return false;
     }
-    byte_at(kind, n) != 4
+    byte_at(kind, n) != HARDCODED_KIND
 }
 
 // Is object n one of driver k (class 1) or of device k (class 2)?
@@ -120,7 +125,7 @@ pub fn create_partition(area: &mut [u8], room: usize, op: Operation)
         ⌜ ((config : Config) (a : Actor) → now (area .exit)
         ≡ layout (apply config op Create a (view room (now (area .entry))))) ⌝ }
 {
-    set_status(area, room, op.partition, 1);
+    set_status(area, room, op.partition, EXISTING);
 }
 
 // Code 6: the partition is destroyed.
@@ -130,7 +135,7 @@ pub fn destroy_partition(area: &mut [u8], room: usize, op: Operation)
         ⌜ ((config : Config) (a : Actor) → now (area .exit)
         ≡ layout (apply config op Destroy a (view room (now (area .entry))))) ⌝ }
 {
-    set_status(area, room, op.partition, 2);
+    set_status(area, room, op.partition, DESTROYED);
 }
 
 // Code 7: a driver and its objects go to a partition, and the objects are cleared.
@@ -148,7 +153,7 @@ pub fn activate_driver(area: &mut [u8], room: usize, config: Config, op: Operati
         &config.objects.kind,
         &config.objects.class,
         &config.objects.owner,
-        1,
+        DRIVER_CLASS,
         op.subject,
         p,
         true,
@@ -170,7 +175,7 @@ pub fn activate_device(area: &mut [u8], room: usize, config: Config, op: Operati
         &config.objects.kind,
         &config.objects.class,
         &config.objects.owner,
-        2,
+        DEVICE_CLASS,
         op.subject,
         p,
         true,
@@ -209,7 +214,7 @@ pub fn deactivate_driver(area: &mut [u8], room: usize, config: Config, op: Opera
         &config.objects.kind,
         &config.objects.class,
         &config.objects.owner,
-        1,
+        DRIVER_CLASS,
         op.subject,
         0,
         false,
@@ -230,7 +235,7 @@ pub fn deactivate_device(area: &mut [u8], room: usize, config: Config, op: Opera
         &config.objects.kind,
         &config.objects.class,
         &config.objects.owner,
-        2,
+        DEVICE_CLASS,
         op.subject,
         0,
         false,

@@ -14,12 +14,30 @@ pub const MOST_VALUES: u8 = 47;
 
 pub const MOST_ENTRIES: u8 = 6;
 
-// The largest kind, owner's class and mode.
-pub const MOST_KIND: u8 = 4;
+// The kinds that a rule speaks of (document 01, 'Words'): a transfer descriptor and a hardcoded one; and the largest.
+pub const TRANSFER_KIND: u8 = 1;
 
-pub const MOST_CLASS: u8 = 2;
+pub const HARDCODED_KIND: u8 = 4;
 
-pub const MOST_MODE: u8 = 3;
+pub const MOST_KIND: u8 = HARDCODED_KIND;
+
+// Whose an object is: external, a driver's, a device's; and the largest.
+pub const EXTERNAL_CLASS: u8 = 0;
+
+pub const DRIVER_CLASS: u8 = 1;
+
+pub const DEVICE_CLASS: u8 = 2;
+
+pub const MOST_CLASS: u8 = DEVICE_CLASS;
+
+// The modes of an entry: read, write, both; and the largest.
+pub const READ_MODE: u8 = 1;
+
+pub const WRITE_MODE: u8 = 2;
+
+pub const BOTH_MODE: u8 = 3;
+
+pub const MOST_MODE: u8 = BOTH_MODE;
 
 // The largest number, and how many bytes one has at most.
 pub const MOST_NUMBER: usize = 65535;

@@ -10,8 +10,11 @@ use crate::lookups::number_of;
 use model::Actor;
 use model::Config;
 use model::Counts;
+use model::EXTERNAL_CLASS;
 use model::Family;
+use model::HARDCODED_KIND;
 use model::Operation;
+use model::TRANSFER_KIND;
 use state::MOST_PARTITION;
 
 // The driver or device s exists, where the code names one.
@@ -138,12 +141,15 @@ fn item_fits(f: Family, kind: u8, class: u8, v: usize, other: u8, form: usize) -
     ensures { λ r. ⌜ r ≡ fits f kind class v other form ⌝ }
 {
     match f {
-        Family::Write => (kind != 4) & ((kind == 1) == (form == 0)),
-        Family::Copy => (kind != 4) & ((v == 0) | ((other != 4) & ((kind == 1) == (other == 1)))),
+        Family::Write => (kind != HARDCODED_KIND) & ((kind == TRANSFER_KIND) == (form == 0)),
+        Family::Copy => (kind != HARDCODED_KIND)
+            & ((v == 0)
+                | ((other != HARDCODED_KIND)
+                    & ((kind == TRANSFER_KIND) == (other == TRANSFER_KIND)))),
         Family::Create => true,
         Family::Destroy => true,
-        Family::Activate => (kind != 4) & (class == 0),
-        Family::Deactivate => (kind != 4) & (class == 0),
+        Family::Activate => (kind != HARDCODED_KIND) & (class == EXTERNAL_CLASS),
+        Family::Deactivate => (kind != HARDCODED_KIND) & (class == EXTERNAL_CLASS),
     }
 }
 

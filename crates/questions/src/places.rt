@@ -11,6 +11,8 @@ use model::Family;
 use model::Operation;
 use state::DEVICE_BYTES;
 use state::DRIVER_BYTES;
+use state::EXISTING;
+use state::UNUSED;
 use state::look::device;
 use state::look::driver;
 use state::look::object;
@@ -24,13 +26,13 @@ pub fn status_fits(area: &[u8], room: usize, op: Operation, f: Family, a: Actor)
     match f {
         Family::Write => true,
         Family::Copy => true,
-        Family::Create => status(area, room, op.partition) == 0,
-        Family::Destroy => status(area, room, op.partition) == 1,
-        Family::Activate => status(area, room, op.partition) == 1,
+        Family::Create => status(area, room, op.partition) == UNUSED,
+        Family::Destroy => status(area, room, op.partition) == EXISTING,
+        Family::Activate => status(area, room, op.partition) == EXISTING,
         Family::Deactivate => match a {
             Actor::Driver => true,
             Actor::Device => true,
-            Actor::External => status(area, room, op.partition) == 1,
+            Actor::External => status(area, room, op.partition) == EXISTING,
         },
     }
 }

@@ -9,6 +9,8 @@ ghost use Rattle.state.specs.Formed.{statusesRight, isAssigned, assignme
 ghost use Rattle.state.specs.Formed.{objectsRight, isValue, contentRight, placeRight};
 use crate::DEVICE_BYTES;
 use crate::DRIVER_BYTES;
+use crate::EXISTING;
+use crate::MOST_STATUS;
 use crate::PARTITIONS;
 use crate::bytes::byte_at;
 use crate::look::content;
@@ -18,6 +20,10 @@ use crate::look::object;
 use crate::look::status;
 use model::CONTENT_BYTES;
 use model::Config;
+use model::DEVICE_CLASS;
+use model::DRIVER_CLASS;
+use model::HARDCODED_KIND;
+use model::TRANSFER_KIND;
 
 // Every status is 0, 1 or 2, and that of partition 0 is 0.
 fn statuses_formed(area: &[u8], room: usize) -> bool
@@ -29,7 +35,7 @@ fn statuses_formed(area: &[u8], room: usize) -> bool
     }
     let mut i = 0;
     while i < PARTITIONS {
-        if area[i] > 2 {
+        if area[i] > MOST_STATUS {
             return false;
         }
         i += 1;
@@ -45,7 +51,7 @@ fn is_assigned(area: &[u8], room: usize, p: u8) -> bool
     if p == 0 {
         return true;
     }
-    status(area, room, p as usize) == 1
+    status(area, room, p as usize) == EXISTING
 }
 
 // The partition byte p of driver or device n, of which there are `many`.
@@ -127,14 +133,14 @@ fn content_formed<'a>(
         return is_value(c, 0);
     }
     let k = byte_at(kind, n);
-    if k == 1 {
+    if k == TRANSFER_KIND {
         let v = c[0];
         if values < v {
             return false;
         }
         return is_value(c, v);
     }
-    if k == 4 {
+    if k == HARDCODED_KIND {
         let o = byte_at(owner, n);
         let v = byte_at(hardcoded, o as usize);
         return is_value(c, v);
@@ -164,11 +170,11 @@ fn place_formed<'a>(
         return false;
     }
     let k = byte_at(class, n);
-    if k == 1 {
+    if k == DRIVER_CLASS {
         let o = byte_at(owner, n);
         return p == driver(area, room, o as usize);
     }
-    if k == 2 {
+    if k == DEVICE_CLASS {
         let o = byte_at(owner, n);
         return p == device(area, room, o as usize);
     }

@@ -13,6 +13,7 @@ use crate::change::set_object;
 use crate::change::store;
 use model::CONTENT_BYTES;
 use model::Config;
+use model::HARDCODED_KIND;
 
 // Statuses, drivers and devices become 0.
 fn zero_head(area: &mut [u8])
@@ -41,7 +42,7 @@ fn fresh_content<'a>(
     if objects < n {
         return [0u8; CONTENT_BYTES];
     }
-    if byte_at(kind, n) != 4 {
+    if byte_at(kind, n) != HARDCODED_KIND {
         return [0u8; CONTENT_BYTES];
     }
     let o = byte_at(owner, n);

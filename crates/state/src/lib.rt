@@ -28,3 +28,12 @@ pub const DRIVERS_FROM: usize = PARTITIONS;
 pub const DEVICES_FROM: usize = DRIVERS_FROM + DRIVER_BYTES;
 
 pub const RECORDS_FROM: usize = DEVICES_FROM + DEVICE_BYTES;
+
+// The status of a partition: never used, existing, destroyed; and the largest.
+pub const UNUSED: u8 = 0;
+
+pub const EXISTING: u8 = 1;
+
+pub const DESTROYED: u8 = 2;
+
+pub const MOST_STATUS: u8 = DESTROYED;
