@@ -24,26 +24,26 @@ extern "C" {
 /* What a number means: the question that was answered with no. */
 enum sorter_gate_answer {
     SORTER_GATE_ACCEPTED = 0,
-    SORTER_GATE_NUMBER_CUT = 1,         /* line file: a number's last byte is missing */
-    SORTER_GATE_NUMBER_FORM = 2,        /* line file: a number has more than three bytes, is not the shortest form, or is above 65,535 */
-    SORTER_GATE_FIELD_RANGE = 3,        /* line file: a number is out of its field's range */
-    SORTER_GATE_LEFT_OVER = 4,          /* line file: bytes are left over */
-    SORTER_GATE_HARDWIRED_OWNER = 5,    /* line file: a card has not exactly one kind 4 object, or a kind 4 object has no card as owner */
-    SORTER_GATE_HARDWIRED_VALUE = 6,    /* line file: a hard-wired value names what it may not */
-    SORTER_GATE_STATE_LENGTH = 7,       /* the state area has another length */
-    SORTER_GATE_ANSWER_LENGTH = 8,      /* the answer area is too short */
-    SORTER_GATE_STATE_FORM = 9,         /* the state is not well formed */
-    SORTER_GATE_RECORD = 10,            /* the record cannot be read to its last byte */
-    SORTER_GATE_UNKNOWN = 11,           /* a driver, card, object or value that is named does not exist, or a partition is not 1 to 63 */
-    SORTER_GATE_TWICE = 12,             /* a target, destination or listed object is named twice */
-    SORTER_GATE_KIND = 13,              /* kinds do not fit */
-    SORTER_GATE_PARTITION = 14,         /* the partition was used before (create), or does not exist */
-    SORTER_GATE_NOT_EMPTY = 15,         /* something is in the partition that is to be destroyed */
-    SORTER_GATE_ACTIVITY = 16,          /* what is brought in is active, or what acts or leaves is not */
-    SORTER_GATE_ELSEWHERE = 17,         /* an object is not in the driver's partition, or not in the one named */
-    SORTER_GATE_NOT_DESCRIBED = 18,     /* a card's transfer is not described by what it reads now */
-    SORTER_GATE_OUTSIDE = 19,           /* a chain of descriptor writes would lead a card out of its partition */
-    SORTER_GATE_IN_REACH = 20           /* an active card can reach an object that would leave */
+    SORTER_GATE_NUMBER_CUT = 1,      /* line file: a number's last byte is missing */
+    SORTER_GATE_NUMBER_FORM = 2,     /* line file: a number of over three bytes, not the shortest, or above 65,535 */
+    SORTER_GATE_FIELD_RANGE = 3,     /* line file: a number is out of its field's range */
+    SORTER_GATE_LEFT_OVER = 4,       /* line file: bytes are left over */
+    SORTER_GATE_HARDWIRED_OWNER = 5, /* line file: a card has not just one kind 4 object, or kind 4 has no card */
+    SORTER_GATE_HARDWIRED_VALUE = 6, /* line file: a hard-wired value names what it may not */
+    SORTER_GATE_STATE_LENGTH = 7,    /* the state area has another length */
+    SORTER_GATE_ANSWER_LENGTH = 8,   /* the answer area is too short */
+    SORTER_GATE_STATE_FORM = 9,      /* the state is not well formed */
+    SORTER_GATE_RECORD = 10,         /* the record cannot be read to its last byte */
+    SORTER_GATE_UNKNOWN = 11,        /* something named does not exist, or a partition is not 1 to 63 */
+    SORTER_GATE_TWICE = 12,          /* a target, destination or listed object is named twice */
+    SORTER_GATE_KIND = 13,           /* kinds do not fit */
+    SORTER_GATE_PARTITION = 14,      /* the partition was used before (create), or does not exist */
+    SORTER_GATE_NOT_EMPTY = 15,      /* something is in the partition that is to be destroyed */
+    SORTER_GATE_ACTIVITY = 16,       /* what is brought in is active, or what acts or leaves is not */
+    SORTER_GATE_ELSEWHERE = 17,      /* an object is not in the driver's partition, or not in the one named */
+    SORTER_GATE_NOT_DESCRIBED = 18,  /* a card's transfer is not described by what it reads now */
+    SORTER_GATE_OUTSIDE = 19,        /* a chain of descriptor writes would lead a card out of its partition */
+    SORTER_GATE_IN_REACH = 20        /* an active card can reach an object that would leave */
 };
 
 /*
@@ -52,16 +52,16 @@ enum sorter_gate_answer {
 uint32_t gate_load_check(const uint8_t *line, size_t line_len);
 
 /*
- * Makes the fresh state of a line in `state`: questions 1 to 6, then 7. At 0 the whole area is the fresh state, whatever
- * it held: all 0 but the hard-wired value numbers. At any other number the area is as it was.
+ * Makes the fresh state of a line in `state`: questions 1 to 6, then 7. At 0 the whole area is the fresh state,
+ * whatever it held: all 0 but the hard-wired value numbers. At any other number the area is as it was.
  */
 uint32_t gate_fresh(const uint8_t *line, size_t line_len, uint8_t *state, size_t state_len);
 
 /*
  * Judges one operation record and, at 0, carries it out: questions 1 to 20, in this order, each for the whole record
  * before the next. At 0 `state` is the state that follows; a read (codes 3 and 4) has put sixteen bytes for each source
- * at the start of `answer`, in order, and every other byte of `answer` is as it was. At any other number both areas are as
- * they were.
+ * at the start of `answer`, in order, and every other byte of `answer` is as it was. At any other number both areas are
+ * as they were.
  */
 uint32_t gate_operate(const uint8_t *line, size_t line_len, uint8_t *state, size_t state_len, const uint8_t *record,
                       size_t record_len, uint8_t *answer, size_t answer_len);

@@ -54,9 +54,23 @@ static void check(const struct area *a, int may_change, uint32_t answer, const c
 static const uint8_t LINE_L[] = {1, 2, 2, 6, 5, 4, 2, 1, 1, 2, 1, 4, 2, 2, 1, 2, 2, 3, 0, 0, 3, 1, 1,
                                  1, 2, 1, 2, 1, 0, 1, 4, 1, 0, 1, 5, 2, 0, 1, 4, 2, 3, 1, 2, 2, 4};
 
-static const uint8_t RECORDS[][8] = {{5, 1},       {5, 2},          {7, 1, 1},           {8, 1, 1},          {8, 2, 2},
-                                     {9, 1, 1, 5}, {1, 1, 1, 2, 0, 3}, {12, 1, 1, 5},    {3, 1, 1, 5, 0},    {4, 1, 1, 2, 0},
-                                     {6, 2},       {11, 2},         {10, 1},             {1, 1, 1, 2, 0, 5}, {3, 1, 2, 6, 5, 5, 0}};
+static const uint8_t RECORDS[][8] = {
+    {5, 1},
+    {5, 2},
+    {7, 1, 1},
+    {8, 1, 1},
+    {8, 2, 2},
+    {9, 1, 1, 5},
+    {1, 1, 1, 2, 0, 3},
+    {12, 1, 1, 5},
+    {3, 1, 1, 5, 0},
+    {4, 1, 1, 2, 0},
+    {6, 2},
+    {11, 2},
+    {10, 1},
+    {1, 1, 1, 2, 0, 5},
+    {3, 1, 2, 6, 5, 5, 0},
+};
 
 static const uint8_t LENGTHS[] = {2, 2, 3, 3, 3, 4, 6, 4, 5, 5, 2, 2, 2, 6, 7};
 
@@ -137,7 +151,8 @@ int main(int argc, char **argv) {
             n = gate_fresh(line, line_len, start(&state), state.length);
             check(&state, n == 0, n, "gate_fresh wrote out of place");
         } else {
-            n = gate_operate(line, line_len, start(&state), state.length, record, record_len, start(&answer), answer.length);
+            n = gate_operate(line, line_len, start(&state), state.length, record, record_len, start(&answer),
+                             answer.length);
             check(&state, n == 0, n, "gate_operate wrote out of place in the state");
             check(&answer, n == 0, n, "gate_operate wrote out of place in the answer");
         }

@@ -1,5 +1,5 @@
-// A controller in small: makes a fresh state of document 01's line L, carries out its sequence P, and prints each record
-// with its answer. Ends with status 1 if an answer is not the one that document 01 gives.
+// A controller in small: makes a fresh state of document 01's line L, carries out its sequence P, and prints each
+// record with its answer. Ends with status 1 if an answer is not the one that document 01 gives.
 #include <stdio.h>
 #include <string.h>
 
@@ -44,7 +44,8 @@ int main(void) {
     int wrong = 0;
     for (size_t i = 0; i < sizeof SEQUENCE_P / sizeof *SEQUENCE_P; i++) {
         const struct step *s = &SEQUENCE_P[i];
-        uint32_t n = gate_operate(LINE_L, sizeof LINE_L, state, sizeof state, s->record, s->length, answer, sizeof answer);
+        uint32_t n =
+            gate_operate(LINE_L, sizeof LINE_L, state, sizeof state, s->record, s->length, answer, sizeof answer);
         printf("%2zu %2u  %s\n", i + 1, n, s->what);
         wrong += n != s->answer;
     }
