@@ -1,0 +1,45 @@
+# The library for a controller: build it, install it with its header and its pkg-config file, try it.
+#
+#   make                      prove and build target/staticlib/libgate.a (some minutes; needs the Rattle toolchain, rt)
+#   make install PREFIX=/usr  copy it to PREFIX (/usr/local if none is given), below DESTDIR if that is given
+#   make check                lint, and try the library from C and Rust, in seconds; bash .ci/run proves all anew
+#   make clean                remove what this file makes, and nothing that rt keeps
+PREFIX ?= /usr/local
+override PREFIX := $(abspath $(PREFIX))
+LIBDIR ?= $(PREFIX)/lib
+INCLUDEDIR ?= $(PREFIX)/include
+DESTDIR ?=
+VERSION := 0.1.0
+
+library := target/staticlib/libgate.a
+sources := crates.txt $(shell find crates -name '*.rt' -o -name '*.antt')
+
+.PHONY: all lib install check clean
+all: lib
+lib: $(library)
+
+# Only a proved library is written. The file gets today's time even if rt found it proved and left it as it was.
+target/staticlib/lib%.a: $(sources)
+	@command -v rt > /dev/null || { echo "rt of the Rattle toolchain is not installed: it builds lib$*.a" >&2; exit 1; }
+	@echo "building lib$*.a, which is proved first: some minutes" >&2
+	@mkdir -p target
+	@rt staticlib $* > target/$*.log 2>&1 || { tail -n 20 target/$*.log >&2; exit 1; }
+	@touch $@
+
+# The pkg-config file names the places without DESTDIR, where the files only wait to be packed, and by its own prefix
+# where they are below it, so that a copied tree needs one line changed.
+install: $(library)
+	install -d "$(DESTDIR)$(LIBDIR)/pkgconfig" "$(DESTDIR)$(INCLUDEDIR)"
+	install -m 644 $(library) "$(DESTDIR)$(LIBDIR)/libgate.a"
+	install -m 644 include/sorter_gate.h "$(DESTDIR)$(INCLUDEDIR)/sorter_gate.h"
+	sed -e 's|@PREFIX@|$(PREFIX)|' -e 's|@LIBDIR@|$(LIBDIR:$(PREFIX)/%=$${prefix}/%)|' \
+	    -e 's|@INCLUDEDIR@|$(INCLUDEDIR:$(PREFIX)/%=$${prefix}/%)|' -e 's|@VERSION@|$(VERSION)|' \
+	    sorter_gate.pc.in > "$(DESTDIR)$(LIBDIR)/pkgconfig/sorter_gate.pc"
+	chmod 644 "$(DESTDIR)$(LIBDIR)/pkgconfig/sorter_gate.pc"
+
+check: $(library)
+	bash tests/lint.sh
+	bash tests/install.sh
+
+clean:
+	rm -rf target/staticlib target/lint target/gate.log
