@@ -1,8 +1,9 @@
-# The library for a controller: build it, install it with its header and its pkg-config file, try it.
+# The library for a controller: build it, install it with its header and its pkg-config file, try it, measure it.
 #
 #   make                      prove and build target/staticlib/libgate.a (some minutes; needs the Rattle toolchain, rt)
 #   make install PREFIX=/usr  copy it to PREFIX (/usr/local if none is given), below DESTDIR if that is given
 #   make check                lint, and try the library from C and Rust, in seconds; bash .ci/run proves all anew
+#   make bench                the tables of docs/PERFORMANCE.md, by callgrind
 #   make clean                remove what this file makes, and nothing that rt keeps
 PREFIX ?= /usr/local
 override PREFIX := $(abspath $(PREFIX))
@@ -14,7 +15,7 @@ VERSION := 0.1.0
 library := target/staticlib/libgate.a
 sources := crates.txt $(shell find crates -name '*.rt' -o -name '*.antt')
 
-.PHONY: all lib install check clean
+.PHONY: all lib install check bench clean
 all: lib
 lib: $(library)
 
@@ -40,6 +41,10 @@ install: $(library)
 check: $(library)
 	bash tests/lint.sh
 	bash tests/install.sh
+	python3 bench/stack.py
+
+bench: $(library)
+	python3 bench/run.py
 
 clean:
-	rm -rf target/staticlib target/lint target/gate.log
+	rm -rf target/staticlib target/lint target/gate.log target/probe.log

@@ -11,7 +11,8 @@ READ, WRITE, BOTH = 1, 2, 3
 
 
 class Line:
-    """A configuration with everything in partition 1; objects are (kind, class, owner), values lists of entries."""
+    """A configuration with everything in partition 1, or in none if `inactive`; objects are (kind, class, owner), and
+    values lists of entries."""
 
     def __init__(self, drivers, devices, objects, values, last=False):
         """The hardcoded descriptors have the smallest numbers, or the largest if `last`."""
@@ -23,6 +24,7 @@ class Line:
         self.values = {v: [] for v in range(1, values + 1)}
         self.held = {}
         self.elsewhere = set()
+        self.inactive = False
 
     def own(self, device):
         """The transfer descriptors of a device."""
@@ -39,12 +41,13 @@ class Line:
     def area(self):
         area = bytearray(AREA)
         area[1] = area[2] = 1
+        place = 0 if self.inactive else 1
         for i in range(self.drivers):
-            area[DRIVERS_FROM + i] = 1
+            area[DRIVERS_FROM + i] = place
         for i in range(self.devices):
-            area[DEVICES_FROM + i] = 1
+            area[DEVICES_FROM + i] = place
         for n, (kind, _, owner) in self.objects.items():
-            area[record_at(n)] = 2 if n in self.elsewhere else 1
+            area[record_at(n)] = 2 if n in self.elsewhere else place
             area[record_at(n) + 1] = self.hardcoded[owner] if kind == 4 else self.held.get(n, 0)
         return bytes(area)
 
@@ -94,4 +97,30 @@ def crossing(**size):
     own = line.own(1)[0]
     line.values[1][0] = (own, READ, 0)
     line.values[line.held[own]][0] = (last, READ, 0)
+    return line
+
+
+def leaving(**size):
+    """As dense, but the last object is external data that nobody names: it may leave."""
+    line = dense(**size)
+    last = len(line.objects)
+    line.objects[last] = (3, 0, 0)
+    line.held.pop(last, None)
+    for v, entries in line.values.items():
+        line.values[v] = [e for e in entries if e[0] != last]
+    return line
+
+
+def chain_out(steps, devices=16, objects=96, values=47):
+    """Nothing is described yet. If value 2 is written to the last descriptor, a chain of `steps` values, each of which
+    stores the next one into the descriptor below, ends in one that names an object of another partition."""
+    line = Line(min(16, devices), devices, objects, values)
+    outside = devices + 1
+    line.objects[outside] = (3, 0, 0)
+    line.elsewhere.add(outside)
+    line.hardcoded[devices] = 1
+    line.values[1] = [(objects, READ, 0)]
+    for v in range(2, steps + 1):
+        line.values[v] = [(objects - v + 1, BOTH, v + 1)]
+    line.values[steps + 1] = [(outside, READ, 0)]
     return line

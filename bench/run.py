@@ -1,45 +1,24 @@
 #!/usr/bin/env python3
-"""Instructions by callgrind, in one run: a load check beside a plain C loader's, one search of the closure, whole calls.
+"""Instructions by callgrind, in one run: a load check beside a plain C loader's, one search of the closure, whole
+calls, where their instructions go, calls beside the second implementation; and the stack that a call takes.
 
-    bench/run.py        needs rt, gcc and valgrind; prints three tables
+    bench/run.py            all tables; needs rt, make, gcc, cargo and valgrind
+    bench/run.py NAME..     some of them: load, search, operate, parts, reference, stack
 """
 import pathlib
-import re
-import subprocess
 import sys
 import tempfile
 
 TOP = pathlib.Path(__file__).resolve().parent.parent
 sys.path.insert(0, str(TOP / "tests"))
 import lines  # noqa: E402
+import parts  # noqa: E402
+import stack  # noqa: E402
 import vectors  # noqa: E402
+from measure import REFERENCE_TIMES, build, build_reference, one_call, write_case  # noqa: E402
 
-TIMES = 100
-
-
-def run(*words):
-    done = subprocess.run([str(w) for w in words], capture_output=True, text=True, cwd=TOP)
-    if done.returncode:
-        sys.exit(f"{words[0]}: {done.stdout}{done.stderr}")
-    return done
-
-
-def instructions(folder, *words):
-    done = run("valgrind", "--tool=callgrind", f"--callgrind-out-file={folder}/out", *words)
-    return int(re.search(r"Collected : (\d+)", done.stderr).group(1)), done.stdout.strip()
-
-
-def one_call(folder, program, *words):
-    """Instructions of one call: what 101 calls take more than one, by the hundred."""
-    first, last = words[:-1], words[-1]
-    many, answer = instructions(folder, program, *first, TIMES + 1, last)
-    return (many - instructions(folder, program, *first, 1, last)[0]) // TIMES, answer
-
-
-def build(program, library, *sources):
-    run("rt", "staticlib", library)
-    run("gcc", "-O2", "-Wall", "-Wextra", "-Werror", "-o", program, *sources, f"target/staticlib/lib{library}.a")
-    return program
+QUARTER = {"devices": 4, "objects": 24, "values": 12}
+CHAINS = (1, 10, 40)
 
 
 def load_table(folder):
@@ -60,15 +39,12 @@ def load_table(folder):
 def search_table(folder):
     program = build(f"{folder}/search", "probe", "bench/search.c")
     print(f"{'search of the closure':<36}{'answer':>8}{'before':>10}{'search':>10}")
-    quarter = {"devices": 4, "objects": 24, "values": 12}
     cases = [("dense", lines.dense()), ("longest chain", lines.chain()), ("first entry crosses", lines.crossing()),
              ("first entry crosses, order turned", lines.crossing(last=True)),
-             ("dense, a quarter", lines.dense(**quarter)), ("longest chain, a quarter", lines.chain(**quarter)),
-             ("first entry crosses, a quarter", lines.crossing(**quarter))]
+             ("dense, a quarter", lines.dense(**QUARTER)), ("longest chain, a quarter", lines.chain(**QUARTER)),
+             ("first entry crosses, a quarter", lines.crossing(**QUARTER))]
     for label, line in cases:
-        file, area = pathlib.Path(folder) / "line.bin", pathlib.Path(folder) / "area.bin"
-        file.write_bytes(line.file())
-        area.write_bytes(line.area())
+        file, area, _ = write_case(folder, line)
         before, first = one_call(folder, program, file, area, 0)
         whole, answer = one_call(folder, program, file, area, 1)
         if first != "0":
@@ -78,7 +54,7 @@ def search_table(folder):
 
 def operate_table(folder):
     """Whole calls at full size, the file loaded in each; the state is the dense one."""
-    program = build(f"{folder}/operate", "gate", "-Iinclude", "bench/operate.c")
+    program = build(f"{folder}/calls", "gate", "-Iinclude", "bench/calls.c")
     print(f"{'one operation call':<36}{'answer':>8}{'whole':>10}")
     line = lines.crossing()
     line.elsewhere.clear()
@@ -89,20 +65,58 @@ def operate_table(folder):
              ("a device reads a descriptor", vectors.row([4, 1, 1, line.own(1)[0], 0])),
              ("a device leaves: refused", vectors.row([11, 1]))]
     for label, record in cases:
-        paths = [pathlib.Path(folder) / name for name in ("line.bin", "area.bin", "record.bin")]
-        for path, data in zip(paths, (line.file(), line.area(), record)):
-            path.write_bytes(data)
-        whole, answer = one_call(folder, program, *paths, "gate")
+        whole, answer = one_call(folder, program, *write_case(folder, line, record), "operate")
         print(f"{label:<36}{answer:>8}{whole:>10}")
 
 
+def reference_cases(size):
+    """A label, what is called, a line, a record and the answer; a line of None if the case does not fit the size."""
+    line = lines.leaving(**size)
+    own, value = line.own(1)[0], len(line.values)
+    yield "load check", "load", line, b"", "0"
+    yield "fresh state", "fresh", line, b"", "0"
+    yield "driver writes a descriptor", "operate", line, vectors.row([1, 1, 1, own, 0, value]), "0"
+    for steps in CHAINS:
+        fits = steps < value
+        chain = lines.chain_out(steps, **size) if fits else None
+        record = vectors.row([1, 1, 1, len(line.objects), 0, 2])
+        yield f"write refused, chain of {steps}", "operate", chain, record, "19"
+    yield "object leaves", "operate", line, vectors.row([12, 1, 1, len(line.objects)]), "0"
+    yield "device leaves, refused", "operate", line, vectors.row([11, 1]), "20"
+
+
+def reference_table(folder):
+    """The library beside the second implementation, on the same bytes; both must give the stated answer."""
+    program = build(f"{folder}/calls", "gate", "-Iinclude", "bench/calls.c")
+    reference = build_reference()
+    print(f"{'beside the reference':<42}{'answer':>6}{'reference':>12}{'library':>10}{'ref/lib':>8}")
+    for name, size in (("full", {}), ("quarter", QUARTER)):
+        for label, call, line, record, stated in reference_cases(size):
+            label = f"{name}: {label}"
+            if line is None:
+                print(f"{label:<42}{'more steps than values':>36}")
+                continue
+            paths = write_case(folder, line, record)
+            gate, first = one_call(folder, program, *paths, call)
+            other, second = one_call(folder, reference, *paths, call, times=REFERENCE_TIMES)
+            if (first, second) != (stated, stated):
+                sys.exit(f"{label}: stated {stated}, the library answers {first}, the reference {second}")
+            print(f"{label:<42}{first:>6}{other:>12}{gate:>10}{other / gate:>8.1f}")
+
+
+TABLES = {"load": load_table, "search": search_table, "operate": operate_table, "parts": parts.table,
+          "reference": reference_table, "stack": stack.table}
+
+
 def main():
+    names = sys.argv[1:] or list(TABLES)
+    if not set(names) <= set(TABLES):
+        sys.exit(f"bench/run.py [NAME..], a NAME is one of {', '.join(TABLES)}")
     with tempfile.TemporaryDirectory() as folder:
-        load_table(folder)
-        print()
-        search_table(folder)
-        print()
-        operate_table(folder)
+        for place, name in enumerate(names):
+            if place:
+                print()
+            TABLES[name](folder)
 
 
 if __name__ == "__main__":

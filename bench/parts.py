@@ -1,0 +1,73 @@
+"""Where the instructions of a call go, at full size: how much more a call takes that gets some questions further, and
+what each function of the library takes by itself. Both show what limits the library (docs/PERFORMANCE.md).
+"""
+import re
+
+import lines
+import vectors
+from measure import TIMES, build, one_call, run, write_case
+
+# A function's part in a call, by the names that callgrind gives; what the compiler put into its caller counts there.
+PARTS = [("load the file", r"config::"), ("look for an entry", r"closure::answer::look"),
+         ("begin the search, and sweep", r"closure::"), ("the other questions, 9 above all", r"gate_operate"),
+         ("carry out, and take apart", r"(effect|operation)::"), ("copy and clear (the host's C library)", r"__mem")]
+
+
+def steps_table(folder):
+    """The same dense state; each call is refused later than the one before."""
+    program = build(f"{folder}/calls", "gate", "-Iinclude", "bench/calls.c")
+    line = lines.leaving()
+    own, value = line.own(1)[0], len(line.values)
+    write = vectors.row([1, 1, 1, own, 0, value])
+    cases = [("1 to 8: the file", "short", write, "8"), ("9: the whole area", "operate", b"", "10"),
+             ("10 to 16: the record", "operate", vectors.row([7, 1, 1]), "16"),
+             ("17 to 19, and the effect", "operate", write, "0")]
+    print(f"{'questions, one after the other':<36}{'answer':>8}{'whole':>10}{'more':>10}")
+    before = 0
+    for label, call, record, stated in cases:
+        whole, answer = one_call(folder, program, *write_case(folder, line, record), call)
+        if answer != stated:
+            raise SystemExit(f"{label}: stated {stated}, the library answers {answer}")
+        print(f"{label:<36}{answer:>8}{whole:>10}{whole - before:>10}")
+        before = whole
+
+
+def by_function(folder, program, paths, times):
+    """The instructions of each function by itself."""
+    run("valgrind", "--tool=callgrind", f"--callgrind-out-file={folder}/out", program, *paths, times, "operate")
+    text = run("callgrind_annotate", "--threshold=100", "--auto=no", f"{folder}/out").stdout
+    found = {}
+    for count, name in re.findall(r"^ *([\d,]+) \([ \d.]+%\) +\S*?:([\w:]+)", text, re.M):
+        found[name] = found.get(name, 0) + int(count.replace(",", ""))
+    return found
+
+
+def functions_table(folder):
+    """One call by its functions: what TIMES + 1 calls take more than one, divided."""
+    program = build(f"{folder}/calls", "gate", "-Iinclude", "bench/calls.c")
+    dense = lines.leaving()
+    own, value, last = dense.own(1)[0], len(dense.values), len(dense.objects)
+    into_chain = vectors.row([1, 1, 1, last, 0, 2])
+    cases = [(dense, vectors.row([1, 1, 1, own, 0, value])), (dense, vectors.row([11, 1])),
+             (lines.chain_out(1), into_chain), (lines.chain_out(40), into_chain)]
+    columns = []
+    for line, record in cases:
+        paths = write_case(folder, line, record)
+        many, once = (by_function(folder, program, paths, n) for n in (TIMES + 1, 1))
+        each = {name: (count - once.get(name, 0)) // TIMES for name, count in many.items()}
+        column = [0] * len(PARTS)
+        for name, count in each.items():
+            part = next((i for i, (_, pattern) in enumerate(PARTS) if re.match(pattern, name)), None)
+            if part is not None:
+                column[part] += count
+        columns.append(column)
+    print(f"{'functions of one call':<40}{'write':>10}{'leave':>10}{'chain 1':>10}{'chain 40':>10}")
+    for (label, _), *counts in zip(PARTS, *columns):
+        print(f"{label:<40}" + "".join(f"{n:>10}" for n in counts))
+    print(f"{'together':<40}" + "".join(f"{sum(column):>10}" for column in columns))
+
+
+def table(folder):
+    steps_table(folder)
+    print()
+    functions_table(folder)
