@@ -42,9 +42,10 @@ check: $(library)
 	bash tests/lint.sh
 	bash tests/install.sh
 	python3 bench/stack.py
+	bash tests/bindings.sh
 
 bench: $(library)
 	python3 bench/run.py
 
 clean:
-	rm -rf target/staticlib target/lint target/gate.log target/probe.log
+	rm -rf target/staticlib target/bindings target/lint target/gate.log target/probe.log

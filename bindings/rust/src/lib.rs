@@ -1,0 +1,86 @@
+//! Safe calls of the sorter gate.
+//!
+//! The gate judges operations that move devices, drivers and objects between partitions. It is a proved library,
+//! `libgate.a`; this package lends it slices and turns its numbers into results. It keeps nothing between calls, uses
+//! no heap, and answers every input of any length and content.
+//!
+//! ```
+//! use sorter_gate::{ANSWER_BYTES, STATE_BYTES, fresh, operate};
+//!
+//! // A line with one driver and nothing else: edition 1, one driver, no card, object or value.
+//! let line = [1, 1, 0, 0, 0];
+//! let (mut state, mut answer) = ([0; STATE_BYTES], [0; ANSWER_BYTES]);
+//! fresh(&line, &mut state)?;
+//! operate(&line, &mut state, &[5, 1], &mut answer)?;
+//! let refusal = operate(&line, &mut state, &[5, 1], &mut answer).unwrap_err();
+//! assert_eq!(refusal.number(), 14);
+//! # Ok::<(), sorter_gate::Refusal>(())
+//! ```
+#![no_std]
+#![warn(missing_docs)]
+
+mod refusal;
+
+pub use refusal::Refusal;
+
+/// The length of a state area.
+pub const STATE_BYTES: usize = 1728;
+
+/// The least length of an answer area.
+pub const ANSWER_BYTES: usize = 128;
+
+unsafe extern "C" {
+    fn gate_load_check(line: *const u8, line_len: usize) -> u32;
+    fn gate_fresh(line: *const u8, line_len: usize, state: *mut u8, state_len: usize) -> u32;
+    fn gate_operate(
+        line: *const u8,
+        line_len: usize,
+        state: *mut u8,
+        state_len: usize,
+        record: *const u8,
+        record_len: usize,
+        answer: *mut u8,
+        answer_len: usize,
+    ) -> u32;
+}
+
+/// Puts questions 1 to 6 to a line file.
+pub fn load_check(line: &[u8]) -> Result<(), Refusal> {
+    // SAFETY: the pointer comes from a slice: it is valid for the slice's length, and not null even if that is 0. The
+    // library only reads it.
+    let number = unsafe { gate_load_check(line.as_ptr(), line.len()) };
+    Refusal::check(number)
+}
+
+/// Makes the fresh state of a line: questions 1 to 6, then 7. If it is refused, `state` is as it was; otherwise all of
+/// it is the fresh state, whatever it held.
+pub fn fresh(line: &[u8], state: &mut [u8]) -> Result<(), Refusal> {
+    // SAFETY: both pointers come from slices: each is valid for its length, and not null even if that is 0. `state` is
+    // borrowed mutably, so that it overlaps nothing and nobody else touches it during the call.
+    let number = unsafe { gate_fresh(line.as_ptr(), line.len(), state.as_mut_ptr(), state.len()) };
+    Refusal::check(number)
+}
+
+/// Judges one operation record and, if it is accepted, carries it out: questions 1 to 20. A read (codes 3 and 4) has
+/// then put sixteen bytes for each source at the start of `answer`; the rest of `answer` is as it was. If the record is
+/// refused, both areas are as they were.
+///
+/// An empty record is always refused, and never for what it asks: `Refusal` 10 says that the line file and both areas
+/// are in order, a smaller number what is wrong with them.
+pub fn operate(line: &[u8], state: &mut [u8], record: &[u8], answer: &mut [u8]) -> Result<(), Refusal> {
+    // SAFETY: as in `fresh`, for four slices; `state` and `answer` are borrowed mutably, so that no two areas overlap
+    // that are written.
+    let number = unsafe {
+        gate_operate(
+            line.as_ptr(),
+            line.len(),
+            state.as_mut_ptr(),
+            state.len(),
+            record.as_ptr(),
+            record.len(),
+            answer.as_mut_ptr(),
+            answer.len(),
+        )
+    };
+    Refusal::check(number)
+}
