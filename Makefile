@@ -43,6 +43,7 @@ check: $(library)
 	bash tests/install.sh
 	python3 bench/stack.py
 	bash tests/bindings.sh
+	bash tests/questions.sh
 
 bench: $(library)
 	python3 bench/run.py
