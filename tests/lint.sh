@@ -56,7 +56,6 @@ lint_rust() {
         for package in "${packages[@]}"; do
             cargo fmt --check --manifest-path "$package"
         done
-        rustfmt --check --edition 2024 --config-path reference/rustfmt.toml tests/link.rs
         echo "lint: the layout of ${#packages[@]} Rust packages"
     fi
     if at_hand cargo clippy --version; then
