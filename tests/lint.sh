@@ -7,11 +7,10 @@ cd "$(dirname "$0")/.."
 out=$(mktemp -d)
 trap 'rm -rf "$out"' EXIT
 
-# The files with these endings, tracked or new, but nothing that git ignores or that was removed.
+# The files whose names fit the pattern, all if none is given, but nothing that is built.
 files() {
-    git -c core.quotepath=off ls-files --cached --others --exclude-standard -- "$@" | sort -u | while read -r file; do
-        if [ -f "$file" ]; then echo "$file"; fi
-    done
+    find . \( -name target -o -name .git -o -name __pycache__ \) -prune -o -type f -name "${1:-*}" -print |
+        sed 's|^\./||' | sort
 }
 
 # The files that begin with the line of an interpreter, or have its ending.
