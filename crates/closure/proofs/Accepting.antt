@@ -43,6 +43,7 @@ module _ (config : Config) (sound : Accepted.Sound config) where
         no-entries = sound .ranges .no-entries;
         few-entries = sound .ranges .few-entries;
         object-known = λ v j l i. record { low = range v j l i .object-least; high = range v j l i .object-most };
+        mode-known = λ v j l i. record { low = range v j l i .mode-least; high = range v j l i .mode-most };
         stored-known = λ v j l i. range v j l i .stored-most;
       }
     where

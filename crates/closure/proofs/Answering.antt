@@ -1,39 +1,34 @@
 -- What a search over the words of the closure answers is what the rules, and the model's computed search, say.
-use Prim.Native.Nat.{ℕ, _+_, _-_, _≤_}
+use Prim.Native.Nat.{ℕ, _+_, _-_}
 use native.Mathlib.Omega.{arith}
 use mathlib.Core.Path.{_≡_, refl, sym, ap, subst, _∙_}
-use mathlib.Core.Bool.{Bool, true, false, not, _&&_, _||_, false≢true}
+use mathlib.Core.Bool.{Bool, true, false, not, _&&_, _||_}
 use mathlib.Core.List.{List, List·Memᴰ}
 use lib.Dec.{eqb}
 use lib.ListN.{getD}
-use borrow.Author.Tests.{eqb-true}
-use Rattle.model.specs.Config.{mostDevices, kindOf, descriptor, Entry, reads, writes, entries}
+use Rattle.model.specs.Config.{kindOf, descriptor, Entry, reads, writes, entries}
 use Rattle.model.specs.State.{State}
 use Rattle.model.specs.Closure.{Collected, Reads, start, stored, own, next, crosses, survey, confined, unnamed}
 use Rattle.model.specs.declared.Config.{Config}
 use Rattle.model.proofs.Lists.{no-both, not-true}
 use Rattle.model.proofs.Entries.{entry-place}
-use Rattle.model.proofs.ClosureExact.{survey-exact, described-exact}
+use Rattle.model.proofs.ClosureExact.{survey-exact}
 use Rattle.closure.specs.Digits.{bit}
 use Rattle.closure.specs.Rules.{opens, stores, crossing, naming}
 use Rattle.closure.specs.Scene.{Scene, entryOf, countOf, In, ValuesOk}
-use Rattle.closure.specs.Words.{Has, ReaderIn, PairIn, Sound, Closed, Settled}
+use Rattle.closure.specs.Words.{Has, ReaderIn, PairIn, Sound, Closed}
 use Rattle.closure.specs.Search.{
   Fines,
   IsStrange,
-  Looked,
+  Finds,
+  Ended,
+  Suspected,
   Hit,
   Answers,
-  isFound,
   isNothing,
   closureOf,
   IsCrossing,
   IsNaming,
-  gives,
-  describes,
-  wanted,
-  isDescribed,
-  Today,
 }
 use Rattle.closure.specs.declared.search.Finding.{Finding}
 use Rattle.closure.specs.declared.search.Finding.the-variants.{Found, Nothing}
@@ -99,46 +94,33 @@ module _ (m : Scene) (k f : List ℕ) (bad : ℕ → ℕ → Bool)
             (λ h. b .strange (subst (λ (n : ℕ). Has f (entryOf m v j .object) n) (sym e) h)));
       }
 
-  abbrev Look : List ℕ → Finding → Type 0
-  Look t = Looked (m .config .values .count) (m .config .values .entries) k f (m .config .counts) t
-
-  -- found before all is grown
-  pub answers-early : (t : List ℕ) (r : Finding) → Sound m k → Look t r → isFound r ≡ true → Answers m badOf r
-  answers-early t (Found c o v j) s l e = strange-hit s c o v j l
-  answers-early t Nothing s l e = absurd (false≢true e)
-
-  -- found or not when all is grown
-  pub answers-late : (t : List ℕ) (r : Finding) → Settled m k t → Look t r → Answers m badOf r
-  answers-late t (Found c o v j) s l = strange-hit (s .sound) c o v j l
-  answers-late t Nothing s l = λ c o v e r h b.
+  -- nothing is strange when all is grown
+  pub answers-none : Ended m f k → Answers m badOf Nothing
+  answers-none s = λ c o v e r h b.
       let (x, y) = read-in m k (s .closed) r in
       let (j, low, lj, hj, is) = entry-place (m .config) v h in
       let i : In (countOf m v) j = record { low = lj; high = hj } in
-      let a = s .sound o .readers (x .0) (x .2) (x .3) in
       let p = s .sound o .values v y in
-      let d : x .0 ≡ c - 1 = omega (arith, x .1) in
       let n : c ≡ c - 1 + 1 = omega (arith, x .1) in
-      let t′ = s .covers o (p .object) v (x .0) (p .value) (x .2) y (x .3) in
-      fines (entryOf m v j .object) (ok .object-known v j (p .value) i) .right (c - 1)
-      (l c o v j (subst (λ (c : ℕ). In (m .config .counts .devices) c) (sym (x .1)) (a .device)) (p .object) (p .value)
-      x y (subst (λ (n : ℕ). Has t v n) d t′) i)
+      fines (entryOf m v j .object) (ok .object-known v j (p .value) i) .right (c - 1) (s .fine c o v j x y i)
       (subst (λ (c : ℕ). bad c (entryOf m v j .object) ≡ true) n
       (subst (λ (e : Entry). bad c (e .object) ≡ true) is b))
 
--- question 18: the words of values when all is grown
-pub today-settled : (m : Scene) (k t : List ℕ) → Settled m k t → Today m t
-today-settled m k t s =
-    record {
-      right = s .right;
-      all = λ c o v r.
-          (let (x, y) = read-in m k (s .closed) r in
-          let p = s .sound o .values v y in
-          let d : x .0 ≡ c - 1 = omega (arith, x .1) in (
-            p .value,
-            record { low = omega (arith, x .1); high = omega (arith, x .1, x .2) },
-            subst (λ (n : ℕ). Has t v n) d (s .covers o (p .object) v (x .0) (p .value) (x .2) y (x .3)),
-          ));
-    }
+  -- what is strange is found
+  pub answers-find : (s w : ℕ) (r : Finding)
+      → Finds (m .config .values .count) (m .config .values .entries) k f (m .config .counts) s w r
+      → ((n : ℕ) → bit s n ≡ 1 → Suspected m f k n w) → (n : ℕ) × (bit s n ≡ 1) → Answers m badOf r
+  answers-find s w (Found c o v j) l h some = strange-hit (h (some .0) (some .1) .sound) c o v j l
+  answers-find s w Nothing l h some =
+      let n = some .0 in
+      let x = h n (some .1) in
+      let p = x .paired in
+      let r = p .reading in
+      let q : r .0 ≡ n = omega (arith, r .1) in
+      let g = x .sound (p .object) in
+      let d = g .readers (r .0) (r .2) (r .3) .device in
+      absurd (x .strange (l n (p .object) (omega (arith, d .high)) (some .1) (g .values w (p .paired) .object)
+      (subst (λ (n : ℕ). Has k (p .object) n) q (r .3)) (p .paired) (x .entry) (x .there)))
 
 -- an answer is the computed one
 survey-answer : (config : Config) (b : State) (bad ok : ℕ → Entry → Bool)
@@ -192,53 +174,3 @@ module _ (config : Config) (b : State) where
     naming-entry (Found c o v j) h =
         record { read = h .read; there = h .there; listed = h .listed; is-bad = h .is-bad }
     naming-entry Nothing h = tt
-
--- question 18
-module _ (config : Config) (b : State) (n : ℕ) (write : Bool) (w : ℕ) where
-  gives-wanted : (t : Bool) (e : Entry) → describes (config .objects .kind) n t w e ≡ wanted config n t w e
-  unfolding gives
-  gives-wanted true e = go (eqb (e .object) n) refl
-    where
-      fits : ℕ → Bool
-      fits o = not (eqb (kindOf config o) 1) || eqb (e .value) w
-
-      alone : (t : Bool) → t || false ≡ t
-      alone true = refl
-      alone false = refl
-
-      go : (s : Bool) → eqb (e .object) n ≡ s → s && (writes e && fits (e .object) || false) ≡ s && writes e && fits n
-      go true q = alone (writes e && fits (e .object)) ∙ ap (λ (o : ℕ). writes e && fits o) (eqb-true (e .object) n q)
-      go false q = refl
-  gives-wanted false e = refl
-
-  abbrev scene : Scene
-  scene = record { config = config; storing = false; state = b }
-
-  module _ (t : List ℕ) (c : ℕ) (today : Today scene t) where
-    -- an entry was found
-    pub described-found : countOf scene 0 ≡ 0 → In mostDevices c → (v j : ℕ) → bit (getD t v 0) (c - 1) ≡ 1
-        → In (countOf scene v) j → describes (config .objects .kind) n write w (entryOf scene v j) ≡ true
-        → true ≡ isDescribed scene c n write w
-    described-found none i v j h there ok =
-        let y : c - 1 + 1 ≡ c = omega (arith, i .low) in
-        let r = today .right v (c - 1) h in
-        sym (described-exact config b c (wanted config n write w) .1 (
-          r .object,
-          v,
-          entryOf scene v j,
-          subst (λ (c : ℕ). Reads config false b c (r .object) v) y (r .read),
-          entry-there scene none v j there,
-          sym (gives-wanted write (entryOf scene v j)) ∙ ok,
-        ))
-
-    -- no value that the device reads has one
-    pub described-not : ((v j : ℕ) → v ≤ config .counts .values → In mostDevices c → bit (getD t v 0) (c - 1) ≡ 1
-        → In (countOf scene v) j → describes (config .objects .kind) n write w (entryOf scene v j) ≡ true → ⊥)
-        → false ≡ isDescribed scene c n write w
-    described-not none =
-        sym (not-true (isDescribed scene c n write w)
-        (λ h. let (o, v, e, r, l, k) = described-exact config b c (wanted config n write w) .0 h in
-        let (few, i, d) = today .all c o v r in
-        let (j, low, lj, hj, is) = entry-place config v l in
-        none v j few i d (record { low = lj; high = hj })
-        (subst (λ (e : Entry). describes (config .objects .kind) n write w e ≡ true) is (gives-wanted write e ∙ k))))

@@ -1,5 +1,5 @@
 -- The digits of words: or, and, powers of two, the low sixteen, and the lowest that is set.
-use Prim.Native.Nat.{ℕ, zero, suc, _+_, _-_, _*_, _/_, _%_, _^_, _≤_, _<_, min, max}
+use Prim.Native.Nat.{ℕ, zero, suc, _+_, _-_, _*_, _/_, _%_, _^_, _≤_, _<_, max}
 use native.Mathlib.Nat.{
   not-suc-le-zero,
   add-zero,
@@ -11,6 +11,7 @@ use native.Mathlib.Nat.{
   pow-suc,
   pow-succ',
   zero-add,
+  add-comm,
   suc-add,
   one-mul,
   mod-eq-of-lt,
@@ -19,13 +20,25 @@ use native.Mathlib.Nat.{
 use native.Mathlib.Omega.{arith}
 use native.Mathlib.Decide.{ℕ-discrete}
 use mathlib.Core.Path.{_≡_, refl, sym, ap, ap₂, subst, _∙_}
-use mathlib.Core.Logic.{_⊎_, inl, inr, by-cases}
+use mathlib.Core.Logic.{_⊎_, inl, inr, ⊎-elim, by-cases}
 use mathlib.Core.Bool.{Bool, true, false, cond}
 use lib.Arith.{digits-div, digits-mod, mod-mul}
-use lib.Bits.{bitOr, bitAnd, or-step, and-step, or-add-and, and-le-r}
+use lib.Bits.{
+  bitOr,
+  bitAnd,
+  bitXor,
+  differ,
+  or-step,
+  and-step,
+  xor-step,
+  or-add-and,
+  xor-add-and,
+  and-le-r,
+  and-mask,
+}
 use lib.Count.{trailingZeros, under}
 use lib.Pow.{pow-pos, shl-exact, shr-le}
-use Rattle.closure.specs.Digits.{bit, Next}
+use Rattle.closure.specs.Digits.{bit, Next, Cleared, Without}
 
 pub bit-two : (n k : ℕ) → bit n k < 2
 unfolding bit
@@ -51,14 +64,8 @@ module _ (op f : ℕ → ℕ → ℕ) (step : (a b : ℕ) → op a b ≡ op (a /
 max-two : (x y : ℕ) → x < 2 → y < 2 → max x y < 2
 max-two x y h k = omega arith
 
-min-two : (x y : ℕ) → x < 2 → y < 2 → min x y < 2
-min-two x y h k = omega arith
-
 or-bit : (a b k : ℕ) → bit (bitOr a b) k ≡ max (bit a k) (bit b k)
 or-bit = op-bit bitOr max or-step max-two
-
-and-bit : (a b k : ℕ) → bit (bitAnd a b) k ≡ min (bit a k) (bit b k)
-and-bit = op-bit bitAnd min and-step min-two
 
 pub or-left : (a b k : ℕ) → bit a k ≡ 1 → bit (bitOr a b) k ≡ 1
 or-left a b k e = or-bit a b k ∙ omega (arith, bit-two b k)
@@ -68,15 +75,6 @@ or-right a b k e = or-bit a b k ∙ omega (arith, bit-two a k)
 
 pub or-out : (a b k : ℕ) → bit (bitOr a b) k ≡ 1 → (bit a k ≡ 1) ⊎ (bit b k ≡ 1)
 or-out a b k e = by-cases (ℕ-discrete (bit a k) 1) inl (λ n. inr (omega (arith, sym (or-bit a b k) ∙ e, bit-two a k)))
-
-pub and-in : (a b k : ℕ) → bit a k ≡ 1 → bit b k ≡ 1 → bit (bitAnd a b) k ≡ 1
-and-in a b k e f = and-bit a b k ∙ omega arith
-
-pub and-out : (a b k : ℕ) → bit (bitAnd a b) k ≡ 1 → (bit a k ≡ 1) × (bit b k ≡ 1)
-and-out a b k e = (
-  omega (arith, sym (and-bit a b k) ∙ e, bit-two a k, bit-two b k),
-  omega (arith, sym (and-bit a b k) ∙ e, bit-two a k, bit-two b k),
-)
 
 -- a word that a test picks
 pub pick-bit : (b : Bool) (x y n : ℕ) → y ≡ cond b x 0 → bit y n ≡ 1 → (b ≡ true) × (bit x n ≡ 1)
@@ -165,7 +163,7 @@ tz-set (suc d) n h l =
 pub some-bit : (d n : ℕ) → (n ≡ 0 → ⊥) → n < 2 ^ d → (k : ℕ) × (bit n k ≡ 1)
 some-bit d n h l = (trailingZeros d n, tz-set d n (omega arith) l)
 
-bit-below : (n d k : ℕ) → n < 2 ^ d → bit n k ≡ 1 → k < d
+pub bit-below : (n d k : ℕ) → n < 2 ^ d → bit n k ≡ 1 → k < d
 bit-below n d k h e = mod-bit n d k (subst (λ (x : ℕ). bit x k ≡ 1) (sym (mod-eq-of-lt h)) e) .0
 
 -- the search for the lowest digit
@@ -211,3 +209,70 @@ full-bit (suc d) zero h = omega (arith, pow-suc 2 d, pow-pos d)
 full-bit (suc d) (suc k) h =
     let e : (2 ^ suc d - 1) / 2 ≡ 2 ^ d - 1 = omega (arith, pow-suc 2 d, pow-pos d) in
     ap (λ (x : ℕ). bit x k) e ∙ full-bit d k (omega arith)
+
+-- the digits in which two words differ
+differ-two : (x y : ℕ) → x < 2 → y < 2 → differ x y < 2
+differ-two zero y h k = k
+differ-two (suc zero) zero h k = omega arith
+differ-two (suc zero) (suc y) h k = omega arith
+differ-two (suc (suc x)) y h k = absurd (omega arith)
+
+differ-none : (x : ℕ) → differ x 0 ≡ x
+differ-none zero = refl
+differ-none (suc x) = refl
+
+xor-bit : (a b k : ℕ) → bit (bitXor a b) k ≡ differ (bit a k) (bit b k)
+xor-bit = op-bit bitXor differ xor-step differ-two
+
+xor-in : (a b k : ℕ) → bit a k ≡ 1 → bit b k ≡ 0 → bit (bitXor a b) k ≡ 1
+xor-in a b k e z = xor-bit a b k ∙ ap₂ differ e z
+
+xor-out : (a b k : ℕ) → bit (bitXor a b) k ≡ 1 → bit b k ≡ 0 → bit a k ≡ 1
+xor-out a b k e z = sym (differ-none (bit a k)) ∙ ap (differ (bit a k)) (sym z) ∙ sym (xor-bit a b k) ∙ e
+
+xor-both : (a b k : ℕ) → bit a k ≡ 1 → bit b k ≡ 1 → bit (bitXor a b) k ≡ 1 → ⊥
+xor-both a b k e f h =
+    let z : bit (bitXor a b) k ≡ 0 = xor-bit a b k ∙ ap₂ differ e f in
+    omega arith
+
+digit : (n k : ℕ) → (bit n k ≡ 1) ⊎ (bit n k ≡ 0)
+digit n k = by-cases (ℕ-discrete (bit n k) 1) inl (λ h. inr (omega (arith, bit-two n k)))
+
+pub without-of : (a b : ℕ) → Without a b (bitXor (bitOr a b) b)
+without-of a b =
+    record {
+      here = λ k e.
+          ⊎-elim (λ h. absurd (xor-both (bitOr a b) b k (or-right a b k h) h e))
+          (λ z. ⊎-elim (λ h. h) (λ h. absurd (omega arith)) (or-out a b k (xor-out (bitOr a b) b k e z))) (digit b k);
+      other = λ k e h. xor-both (bitOr a b) b k (or-right a b k h) h e;
+      all = λ k e. ⊎-elim inl (λ z. inr (xor-in (bitOr a b) b k (or-left a b k e) z)) (digit b k);
+    }
+
+and-pow : (k w : ℕ) → bit w k ≡ 1 → bitAnd w (2 ^ k) ≡ 2 ^ k
+unfolding bit
+and-pow zero w e = and-mask w 1 ∙ e
+and-pow (suc k) w e =
+    let h : bitAnd (w / 2) (2 ^ suc k / 2) ≡ 2 ^ k = ap (bitAnd (w / 2)) (half-pow k) ∙ and-pow k (w / 2) e in
+    and-step w (2 ^ suc k) ∙ omega (arith, h, even-pow k, pow-suc 2 k)
+
+pub cleared-of : (w k x : ℕ) → x ≡ 2 ^ k → bit w k ≡ 1 → Cleared w k (bitXor w x)
+cleared-of w k x is e =
+    subst (λ (x : ℕ). Cleared w k (bitXor w x)) (sym is)
+    (record {
+      rest = λ j h.
+          ⊎-elim (λ y. subst (λ (j : ℕ). bit w j ≡ 1) (sym (pow-only k j y)) e) (λ z. xor-out w (2 ^ k) j h z)
+          (digit (2 ^ k) j);
+      all = λ j h. ⊎-elim (λ y. inl (pow-only k j y)) (λ z. inr (xor-in w (2 ^ k) j h z)) (digit (2 ^ k) j);
+      less = omega (arith, xor-add-and w (2 ^ k), and-pow k w e, pow-pos k);
+    })
+
+-- the lowest digit of a word
+pub lowest-bit : (w : ℕ) → w < 2 ^ 64 → (w ≡ 0 → ⊥) → bit w (trailingZeros 64 w) ≡ 1
+lowest-bit w h z = tz-set 64 w (omega arith) h
+
+pub lowest-below : (w : ℕ) → w < 2 ^ 64 → (w ≡ 0 → ⊥) → trailingZeros 64 w < 64
+lowest-below w h z = bit-below w 64 (trailingZeros 64 w) h (lowest-bit w h z)
+
+-- the digits above the devices
+pub high-bit : (x j u : ℕ) → bit (x / 2 ^ j) u ≡ bit x (u + j)
+high-bit x j u = shift-bit x j u ∙ ap (bit x) (add-comm j u)

@@ -1,29 +1,26 @@
--- The search: devices that may name an object, values that are to be looked at, and what is found.
-use Prim.Native.Nat.{ℕ, _+_, _-_, _^_, _≤_, _<_}
+-- The search: devices that may name an object, and the entries of a pair.
+use Prim.Native.Nat.{ℕ, zero, suc, _+_, _-_, _^_, _≤_, _<_}
 use native.Mathlib.Omega.{arith}
 use native.Mathlib.Decide.{ℕ-discrete}
 use mathlib.Core.Path.{_≡_, refl, sym, ap, subst, _∙_}
-use mathlib.Core.Logic.{⊎-elim, by-cases}
+use mathlib.Core.Logic.{_⊎_, inl, inr, ⊎-elim, by-cases}
 use mathlib.Core.Bool.{Bool, true, false, not, cond, _||_, false≢true, true≢false}
 use mathlib.Core.List.{List}
-use borrow.Author.Tests.{eqb-true, eqb-false, eq-eqb, ne-eqb, not-false}
-use lib.Bits.{bitOr, bitAnd}
+use borrow.Author.Tests.{eqb-true, eqb-false, eq-eqb, ne-eqb}
+use lib.Bits.{bitOr}
 use lib.Dec.{eqb}
 use lib.ListN.{getD, length, set, replicate}
 use lib.Seq.{getD-set-same, getD-set-other}
-use Rattle.model.specs.Config.{mostDevices, entryPlace}
+use Rattle.model.specs.Config.{mostDevices}
 use Rattle.model.specs.State.{State, deviceIn, objectIn}
-use Rattle.model.specs.declared.Counts.{Counts}
 use Rattle.model.proofs.Lists.{and-l, and-r, or-true, or-left, or-right, both-true, flip-true}
-use Rattle.closure.specs.Digits.{bit}
+use Rattle.closure.specs.Digits.{bit, Next}
 use Rattle.closure.specs.Rules.{crossing, naming}
 use Rattle.closure.specs.Scene.{In}
-use Rattle.closure.specs.Words.{Has, ReaderIn}
-use Rattle.closure.specs.Search.{Parts, FineWord, NoStrange, Safe, Spared, Live, Finds, Looked}
-use Rattle.closure.specs.declared.search.Finding.{Finding}
-use Rattle.closure.specs.declared.search.Finding.the-variants.{Found, Nothing}
+use Rattle.closure.specs.Words.{Has, PairIn}
+use Rattle.closure.specs.Search.{Parts, FineWord, Listed}
 use Rattle.closure.proofs.Digits as Digits
-use Rattle.closure.proofs.Digits.{bit-zero, and-in, and-out, pow-bit, pow-only, pick-bit, full-bit, or-out}
+use Rattle.closure.proofs.Digits.{bit-zero, pow-bit, pow-only, pick-bit, full-bit, or-out}
 use Rattle.closure.proofs.Growing.{set-word, wider-set, no-digit}
 
 -- the devices of each partition: one device more
@@ -142,89 +139,35 @@ fine-more bad devices f o x h p g j l k =
     (subst (λ (y : ℕ). FineWord bad devices o y) (sym (getD-set-same f o x 0 h)) p))
     (λ e. subst (λ (y : ℕ). FineWord bad devices j y) (sym (getD-set-other f o j x 0 e)) (g j l (omega arith)))
 
--- the devices that may name the objects of a value: one entry more
-pub safe-more : (table f : List ℕ) (w v i o : ℕ) → o ≡ getD table (entryPlace v i) 0 → NoStrange table f w v i
-    → NoStrange table f (bitAnd w (getD f o 0)) v (i + 1)
-safe-more table f w v i o is g j n l h b =
-    let p = and-out w (getD f o 0) n b in
-    by-cases (ℕ-discrete j i)
-    (λ q. subst (λ (j : ℕ). Has f (getD table (entryPlace v j) 0) n) (sym q)
-    (subst (λ (o : ℕ). Has f o n) is (p .1)))
-    (λ q. g j n l (omega arith) (p .0))
-
--- one value more
-pub safe-set : (count table f s : List ℕ) (v x : ℕ) → v < length s
-    → NoStrange table f x v (getD count v 0 + 1) → Safe count table f s v → Safe count table f (set s v x) (v + 1)
-safe-set count table f s v x h p g u k =
-    by-cases (ℕ-discrete u v)
-    (λ e. subst (λ (u : ℕ). NoStrange table f (getD (set s v x) u 0) u (getD count u 0 + 1)) (sym e)
-    (subst (λ (y : ℕ). NoStrange table f y v (getD count v 0 + 1)) (sym (getD-set-same s v x 0 h)) p))
-    (λ e. subst (λ (y : ℕ). NoStrange table f y u (getD count u 0 + 1)) (sym (getD-set-other s v u x 0 e))
-    (g u (omega arith)))
-
-unset : (q v x : ℕ) (b : Bool) → x ≡ cond b (2 ^ (v + mostDevices)) 0
-    → (bit (bitOr q x) (v + mostDevices) ≡ 1 → ⊥) → b ≡ false
-unset q v x true is h =
-    absurd (h (Digits.or-right q x (v + mostDevices)
-    (subst (λ (z : ℕ). bit z (v + mostDevices) ≡ 1) (sym is) (pow-bit (v + mostDevices)))))
-unset q v x false is h = refl
-
--- the values to be looked at: one value more
-pub spared-more : (t s : List ℕ) (q v x : ℕ) (b : Bool) → x ≡ cond b (2 ^ (v + mostDevices)) 0
-    → b ≡ not (eqb (bitOr (getD s v 0) (getD t v 0)) (getD s v 0)) → Spared t s q v → Spared t s (bitOr q x) (v + 1)
-spared-more t s q v x b is e g u h none n d =
-    by-cases (ℕ-discrete u v)
-    (λ y.
-    let z = unset q v x b is (subst (λ (u : ℕ). bit (bitOr q x) (u + mostDevices) ≡ 1 → ⊥) y none) in
-    subst (λ (u : ℕ). Has s u n) (sym y)
-    (subst (λ (w : ℕ). bit w n ≡ 1) (eqb-true _ _ (not-false _ (sym e ∙ z)))
-    (Digits.or-right (getD s v 0) (getD t v 0) n (subst (λ (u : ℕ). Has t u n) y d))))
-    (λ y. g u (omega arith) (λ z. none (Digits.or-left q x (u + mostDevices) z)) n d)
-
--- the word of a descriptor that a device reads
-pub reader-digit : (k : List ℕ) (c o : ℕ) → ReaderIn k c o → Has k o (c - 1)
-reader-digit k c o r =
-    let y : r .0 ≡ c - 1 = omega (arith, r .1) in
-    subst (λ (n : ℕ). Has k o n) y (r .3)
-
-pub live-none : (k : List ℕ) (c o q : ℕ) (t : Bool) → t ≡ eqb (bit (getD k o 0) (c - 1)) 1 → not t ≡ true
-    → Live k c o q 0
-live-none k c o q t is e =
+-- how many entries a pair has for a device
+pub listed-none : (count k : List ℕ) (i o v : ℕ) → (Has k o i → PairIn k o v → ⊥) → Listed count k i o v 0
+listed-none count k i o v h =
     record {
-      reading = λ j b. absurd (bit-zero j b);
-      here = λ j b. absurd (bit-zero j b);
-      all = λ j r p b.
-          absurd (eqb-false (bit (getD k o 0) (c - 1)) 1 (sym is ∙ flip-true t e) (reader-digit k c o r));
+      reading = λ l. absurd (omega arith);
+      paired = λ l. absurd (omega arith);
+      few = omega arith;
+      all = λ a b. absurd (h a b);
     }
 
-pub live-some : (k : List ℕ) (c o q : ℕ) → In mostDevices c → (t : Bool) → t ≡ eqb (bit (getD k o 0) (c - 1)) 1
-    → not t ≡ false → Live k c o q (bitAnd (getD k o 0) q)
-live-some k c o q i true is e =
-    let b : bit (getD k o 0) (c - 1) ≡ 1 = eqb-true (bit (getD k o 0) (c - 1)) 1 (sym is) in
-    let y : c ≡ c - 1 + 1 = omega (arith, i .low) in
-    record {
-      reading = λ j z. (c - 1, y, omega (arith, i .high, i .low), b);
-      here = λ j z. and-out (getD k o 0) q j z .0;
-      all = λ j r p z. and-in (getD k o 0) q j p z;
-    }
-live-some k c o q i false is e = absurd (true≢false e)
+pub listed-some : (count k : List ℕ) (i o v : ℕ) → Has k o i → PairIn k o v → Listed count k i o v (getD count v 0)
+listed-some count k i o v a b = record { reading = λ l. a; paired = λ l. b; few = omega arith; all = λ x y. refl }
 
--- what was found is what there is
-module _ (n : Counts) (count table k t f s : List ℕ) (q : ℕ) (safe : Safe count table f s (n .values + 1))
-    (spared : Spared t s q (n .values + 1)) where
-  -- a value that is not looked at names only objects that its devices may name
-  doubtless : (c v j : ℕ) → v ≤ n .values → (bit q (v + mostDevices) ≡ 1 → ⊥) → In (getD count v 0) j
-      → Has t v (c - 1) → Has f (getD table (entryPlace v j) 0) (c - 1)
-  doubtless c v j h none l d =
-      safe v (omega arith) j (c - 1) (l .low) (omega (arith, l .high)) (spared v (omega arith) none (c - 1) d)
+-- the test of a digit
+pub has-true : (b : Bool) (x : ℕ) → b ≡ eqb x 1 → not b ≡ false → x ≡ 1
+has-true true x is e = eqb-true x 1 (sym is)
+has-true false x is e = absurd (true≢false e)
 
-  pub looked-none : q ≡ 0 → Looked count table k f n t Nothing
-  looked-none z c o v j p r h a b d l =
-      doubtless c v j h
-      (λ e. bit-zero (v + mostDevices) (subst (λ (w : ℕ). bit w (v + mostDevices) ≡ 1) z e)) l d
+pub has-false : (b : Bool) (x : ℕ) → b ≡ eqb x 1 → not b ≡ true → x ≡ 1 → ⊥
+has-false b x is e = eqb-false x 1 (sym is ∙ flip-true b e)
 
-  pub looked-found : (r : Finding) → Finds count table k f n q r → Looked count table k f n t r
-  looked-found (Found c o v j) g = g
-  looked-found Nothing g =
-      λ c o v j p r h a b d l. by-cases (ℕ-discrete (bit q (v + mostDevices)) 1) (λ z. g c o v p r h a b z j l)
-      (λ z. doubtless c v j h z l d)
+side : (a b : ℕ) → (a < b) ⊎ (b ≤ a)
+side a zero = inr (omega arith)
+side zero (suc b) = inl (omega arith)
+side (suc a) (suc b) = ⊎-elim (λ l. inl (omega arith)) (λ l. inr (omega arith)) (side a b)
+
+-- what holds of the digits of d below i, and of i itself, holds of those below the next digit
+pub next-all : (P : ℕ → Type 0) {d i i′ : ℕ} → Next d (i + 1) i′ → ((n : ℕ) → n < i → bit d n ≡ 1 → P n) → P i
+    → (n : ℕ) → n < i′ → bit d n ≡ 1 → P n
+next-all P {d} {i} {i′} next f p n h e =
+    by-cases (ℕ-discrete n i) (λ q. subst (λ (n : ℕ). P n) (sym q) p)
+    (λ q. ⊎-elim (λ l. f n l e) (λ l. absurd (next .clear n (omega arith) h e)) (side n i))

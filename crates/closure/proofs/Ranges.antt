@@ -19,6 +19,7 @@ use Rattle.model.specs.Config.{
   Entry,
   reads,
   writes,
+  mostMode,
   entryPlace,
   entries,
 }
@@ -30,7 +31,7 @@ use Rattle.model.proofs.Lists.{and-l, and-r, both-true, from1to-low, from1to-hi
 use Rattle.model.proofs.Facts.{owns-low, owns-high, owns-class, owns-owner}
 use Rattle.model.proofs.Entries.{entry-mem}
 use Rattle.model.proofs.StateBytes.{content-bytes}
-use Rattle.closure.specs.Rules.{holdsValue, opens, stores, starts, owned}
+use Rattle.closure.specs.Rules.{holdsValue, readsMode, writesMode, opens, stores, starts, owned}
 use Rattle.closure.specs.Scene.{Scene, entryOf, countOf, In, EntryOk, ValuesOk}
 
 pub of-in : {n k : ℕ} → In n k → from1to k n ≡ true
@@ -122,6 +123,9 @@ module _ (config : Config) where
     fits-owner : fits ≡ true → eqb (ownerOf config o) c ≡ true
     fits-owner h = search (and-l, and-r)
 
+    pub owned-kind : isOwned ≡ true → kindOf config o ≡ 4
+    owned-kind h = eqb-true (kindOf config o) 4 (fits-kind (owned-fits h))
+
     pub owned-class : isOwned ≡ true → classOf config o ≡ 2
     owned-class h = eqb-true (classOf config o) 2 (fits-class (owned-fits h))
 
@@ -158,6 +162,7 @@ entry-ok k v j p q =
     record {
       place = omega (arith, k .few-values, k .few-entries v p, q .high);
       object = omega (arith, k .few-objects, k .object-known v j p q .high);
+      mode = k .mode-known v j p q;
       stored = omega (arith, k .few-values, k .stored-known v j p q);
     }
 
@@ -172,3 +177,18 @@ held-byte room area o i =
     first : (l : List ℕ) → getD (window contentBytes l) 0 0 ≡ getD l 0 0
     first [] = refl
     first (x ∷ l) = refl
+
+-- of the three modes those that read are all but one, and so are those that write
+pub mode-reads : (mode : ℕ) → In mostMode mode → not (eqb mode 2) ≡ readsMode mode
+mode-reads zero i = absurd (omega (arith, i .low))
+mode-reads (suc zero) i = refl
+mode-reads (suc (suc zero)) i = refl
+mode-reads (suc (suc (suc zero))) i = refl
+mode-reads (suc (suc (suc (suc n)))) i = absurd (omega (arith, i .high))
+
+pub mode-writes : (mode : ℕ) → In mostMode mode → not (eqb mode 1) ≡ writesMode mode
+mode-writes zero i = absurd (omega (arith, i .low))
+mode-writes (suc zero) i = refl
+mode-writes (suc (suc zero)) i = refl
+mode-writes (suc (suc (suc zero))) i = refl
+mode-writes (suc (suc (suc (suc n)))) i = absurd (omega (arith, i .high))

@@ -1,36 +1,57 @@
 -- The words before any step are right, and have all that holds then.
-use Prim.Native.Nat.{ℕ, _+_, _-_, _^_, _≤_, _<_}
+use Prim.Native.Nat.{ℕ, zero, suc, _+_, _-_, _%_, _^_, _≤_, _<_}
 use native.Mathlib.Omega.{arith}
 use native.Mathlib.Decide.{ℕ-discrete}
-use mathlib.Core.Path.{_≡_, refl, sym, subst, _∙_}
-use mathlib.Core.Logic.{by-cases}
-use mathlib.Core.Bool.{Bool, true, false, cond, false≢true}
+use mathlib.Core.Path.{_≡_, refl, sym, ap, subst, _∙_}
+use mathlib.Core.Logic.{_⊎_, inl, inr, ⊎-elim, by-cases}
+use mathlib.Core.Bool.{Bool, true, false, not, cond, false≢true}
 use mathlib.Core.List.{List, []}
 use lib.Bits.{bitOr}
+use lib.Dec.{eqb}
+use borrow.Author.Tests.{eq-eqb, ne-eqb}
+use Rattle.model.proofs.Lists.{and-l, and-r, both-true}
 use lib.ListN.{getD, length, set, replicate}
 use lib.Seq.{getD-set-same, getD-set-other}
 use Rattle.model.specs.Config.{mostDevices}
-use Rattle.model.specs.State.{State, held}
-use Rattle.model.specs.Closure.{active, live, start, own}
+use Rattle.model.specs.State.{State, objectIn, held}
+use Rattle.model.specs.Closure.{start, own}
 use Rattle.model.specs.declared.Counts.{Counts}
 use Rattle.model.specs.declared.Config.{Config}
 use Rattle.closure.specs.Digits.{bit}
-use Rattle.closure.specs.Rules.{starts, owned}
+use Rattle.closure.specs.Rules.{holdsValue, starts, owned}
 use Rattle.closure.specs.Scene.{Scene, configOf, In, OwnersOk}
-use Rattle.closure.specs.Words.{RightPair, RightWord, Sound, BegunAt, Begun, Before, Owners, OwnWord, FirstWord}
-use Rattle.closure.proofs.Digits.{or-left, or-right, bit-zero, pow-bit, pow-only}
+use Rattle.closure.specs.Words.{
+  Has,
+  Wider,
+  Covers,
+  Covered,
+  By,
+  Gave,
+  RightPair,
+  RightWord,
+  Sound,
+  BegunAt,
+  Seeded,
+  Owners,
+  OwnWord,
+  ValueWord,
+  FirstWord,
+}
+use Rattle.closure.specs.Search.{Going}
+use Rattle.closure.proofs.Digits.{or-left, or-right, bit-zero, pow-bit, pow-only, mod-bit, bit-mod}
 use Rattle.closure.proofs.Ranges.{
   hardcoded-object,
   hardcoded-class,
   hardcoded-owner,
   live-test,
   owned-active,
+  owned-kind,
   owned-class,
   owned-owner,
   owned-hardcoded,
   owned-of,
 }
-use Rattle.closure.proofs.Growing.{no-digit, right-or}
+use Rattle.closure.proofs.Growing.{some-scene, set-word, no-digit, right-or, paired-wider}
 
 -- the device that a hardcoded descriptor belongs to is one of the configuration
 pub owners-of : (m : Scene) → OwnersOk (m .config .counts) (m .config .objects .class) (m .config .objects .owner)
@@ -51,13 +72,16 @@ module _ (n : Counts) (kind class owner : List ℕ) (b : State) (o : ℕ) where
   abbrev isOwned : ℕ → Bool
   isOwned c = owned kind class owner b c o
 
-  own-none : ((i : ℕ) → isOwned (i + 1) ≡ true → ⊥) → Word 0
+  pub own-none : ((i : ℕ) → isOwned (i + 1) ≡ true → ⊥) → Word 0
   own-none f =
       record {
         low = λ i e. absurd (bit-zero i e);
         right = λ i e. absurd (bit-zero i e);
         all = λ i e. absurd (f i e);
       }
+
+  pub own-kind : (getD kind o 0 ≡ 4 → ⊥) → Word 0
+  own-kind h = own-none (λ i e. h (owned-kind config b (i + 1) o e))
 
   pub own-low : getD owner o 0 < 1 → Word 0
   own-low h = own-none (λ i e. omega (arith, owned-owner config b (i + 1) o e))
@@ -82,6 +106,42 @@ module _ (n : Counts) (kind class owner : List ℕ) (b : State) (o : ℕ) where
       own-none
       (λ i x. false≢true (e ∙ subst (λ (c : ℕ). isOwned c ≡ true) (sym (is ∙ owned-owner config b (i + 1) o x)) x))
 
+-- the value that a descriptor holds
+pub value-none : (w : ℕ) (kind : List ℕ) (b : State) (o : ℕ) → (starts kind b o ≡ true → ⊥) → ValueWord w kind b o 0
+value-none w kind b o f = record { right = λ n e. absurd (bit-zero n e); all = λ e. absurd (f e) }
+
+pub value-one : (w : ℕ) (kind : List ℕ) (b : State) (o v x : ℕ) → starts kind b o ≡ true → v ≡ held b o
+    → held b o ≤ w → x ≡ 2 ^ (v + mostDevices) → ValueWord w kind b o x
+value-one w kind b o v x s is few e =
+    let p : x ≡ 2 ^ (held b o + mostDevices) = e ∙ ap (λ (v : ℕ). 2 ^ (v + mostDevices)) is in
+    record {
+      right = λ n h. (s, pow-only (held b o + mostDevices) n (subst (λ (y : ℕ). bit y n ≡ 1) p h), few);
+      all = λ h. subst (λ (y : ℕ). bit y (held b o + mostDevices) ≡ 1) (sym p) (pow-bit (held b o + mostDevices));
+    }
+
+pub starts-of : (kind : List ℕ) (b : State) (o p : ℕ) → p ≡ objectIn b o → holdsValue (getD kind o 0) ≡ true
+    → (p ≡ 0 → ⊥) → starts kind b o ≡ true
+unfolding starts
+starts-of kind b o p is h ne = both-true h (ap not (ne-eqb (objectIn b o) 0 (λ e. ne (is ∙ e))))
+
+pub starts-not : (kind : List ℕ) (b : State) (o p : ℕ) → p ≡ objectIn b o → p ≡ 0 → starts kind b o ≡ true → ⊥
+unfolding starts
+starts-not kind b o p is e h =
+    false≢true (sym (ap not (eq-eqb (objectIn b o) 0 (sym is ∙ e)))
+    ∙ and-r (holdsValue (getD kind o 0)) (not (eqb (objectIn b o) 0)) h)
+
+-- an object that holds no value is nobody's
+pub starts-never : (kind : List ℕ) (b : State) (o : ℕ) → (getD kind o 0 ≡ 1 → ⊥) → (getD kind o 0 ≡ 4 → ⊥)
+    → starts kind b o ≡ true → ⊥
+unfolding starts
+starts-never kind b o p q h =
+    false≢true (sym (rw (ne-eqb (getD kind o 0) 1 p, ne-eqb (getD kind o 0) 4 q) refl)
+    ∙ and-l (holdsValue (getD kind o 0)) (not (eqb (objectIn b o) 0)) h)
+
+pub holds-kind : (k : ℕ) → (k ≡ 1) ⊎ (k ≡ 4) → holdsValue k ≡ true
+holds-kind k (inl e) = rw e refl
+holds-kind k (inr e) = rw e refl
+
 -- the word of descriptor o before any step
 module _ (m : Scene) (o x : ℕ)
     (ok : OwnersOk (m .config .counts) (m .config .objects .class) (m .config .objects .owner))
@@ -101,34 +161,27 @@ module _ (m : Scene) (o x : ℕ)
         values = λ v q. absurd (omega (arith, w .low (v + mostDevices) q));
       }
 
-  pub first-owner : starts (m .config .objects .kind) (m .state) o ≡ false → FirstWord m o x
-  first-owner e =
+  -- its device and its value
+  pub first-word : (y : ℕ) → ValueWord (m .config .counts .values) (m .config .objects .kind) (m .state) o y
+      → FirstWord m o (bitOr x y)
+  first-word y f =
       record {
-        right = own-right;
-        started = λ h. absurd (false≢true (sym (live-test (m .config) (m .state) o i ∙ e) ∙ h));
-        owned = λ n p a h. w .all n (owned-of (m .config) (m .state) (n + 1) o a h);
-      }
-
-  held-right : live (m .config) (m .state) o ≡ true → held (m .state) o ≤ m .config .counts .values
-      → RightWord m o (2 ^ (held (m .state) o + mostDevices))
-  held-right e h =
-      record {
-        readers = λ n p y. absurd (omega (arith, pow-only (held (m .state) o + mostDevices) n y));
-        values = λ v y.
-            (let q : v ≡ held (m .state) o =
-            omega (arith, pow-only (held (m .state) o + mostDevices) (v + mostDevices) y) in
-            subst (λ (v : ℕ). RightPair m o v) (sym q) (record { collected = start e refl; object = i; value = h }));
-      }
-
-  pub first-both : starts (m .config .objects .kind) (m .state) o ≡ true
-      → held (m .state) o ≤ m .config .counts .values
-      → FirstWord m o (bitOr x (2 ^ (held (m .state) o + mostDevices)))
-  first-both e h =
-      let d = held (m .state) o + mostDevices in
-      record {
-        right = right-or own-right (held-right (live-test (m .config) (m .state) o i ∙ e) h);
-        started = λ q. or-right x (2 ^ d) d (pow-bit d);
-        owned = λ n p a q. or-left x (2 ^ d) n (w .all n (owned-of (m .config) (m .state) (n + 1) o a q));
+        right = right-or own-right
+            (record {
+              readers = λ n p h. absurd (omega (arith, f .right n h .1));
+              values = λ v h.
+                  (let (s, q, k) = f .right (v + mostDevices) h in
+                  let e : v ≡ held (m .state) o = omega arith in
+                  subst (λ (v : ℕ). RightPair m o v) (sym e)
+                  (record {
+                    collected = start (live-test (m .config) (m .state) o i ∙ s) refl;
+                    object = i;
+                    value = k;
+                  }));
+            });
+        started = λ l.
+            or-right x y _ (f .all (sym (live-test (m .config) (m .state) o i) ∙ l));
+        owned = λ n p a h. or-left x y n (w .all n (owned-of (m .config) (m .state) (n + 1) o a h));
       }
 
 -- all words before any step
@@ -166,12 +219,61 @@ module _ (m : Scene) where
         values = λ v e. absurd (no-digit k o (v + mostDevices) e);
       }
 
-  -- nothing is dealt with yet
-  pub before-of : (k : List ℕ) (a b : ℕ) → Begun m k → Before m k (replicate a 0) (replicate b 0)
-  before-of k a b g =
+  wider-zero : (k : List ℕ) (o x : ℕ) → o < length k → getD k o 0 ≡ 0 → Wider k (set k o x)
+  wider-zero k o x h z =
       record {
-        begun = g;
-        right = λ v n e. absurd (no-digit a v n e);
-        applied = λ v n j h p e. absurd (no-digit a v n e);
-        seen = λ o v n h p e q. absurd (no-digit b o n q);
+        kept = set-word (λ j y. (n : ℕ) → Has k j n → bit y n ≡ 1) k o x h
+            (λ n e. absurd (bit-zero n (subst (λ (y : ℕ). bit y n ≡ 1) z e))) (λ j n e. e);
       }
+
+-- one descriptor more: its devices read its values
+module _ (k t t′ : List ℕ) (d d′ o x : ℕ) (few : o < length k) (zero : getD k o 0 ≡ 0)
+    (g : Gave (λ u. bit x (u + mostDevices) ≡ 1) (x % 2 ^ mostDevices) t t′ d d′) where
+  here : (n : ℕ) → bit x n ≡ 1 → Has (set k o x) o n
+  here n e = subst (λ (y : ℕ). bit y n ≡ 1) (sym (getD-set-same k o x 0 few)) e
+
+  pub seed-by : By k t → By (set k o x) t′
+  seed-by b v n e =
+      let w = wider-zero some-scene k o x few zero in
+      ⊎-elim (λ q. paired-wider w (b v n q))
+      (λ q.
+      let a = mod-bit x mostDevices n (q .1) in
+      record { object = o; reading = (n, refl, a .0, here n (a .1)); paired = here (v + mostDevices) (q .0) })
+      (g .only v n e)
+
+  pub seed-covers : Covered k t → Covered (set k o x) t′
+  seed-covers c =
+      set-word (λ j y. Covers y t′) k o x few (λ v n p e h. g .all v e n (bit-mod x mostDevices n p h))
+      (λ j v n p e h. g .wider .kept v n (c j v n p e h))
+
+  pub seed-marked : ((v n : ℕ) → Has t v n → bit d v ≡ 1) → (v n : ℕ) → Has t′ v n → bit d′ v ≡ 1
+  seed-marked f v n e = ⊎-elim (λ q. g .kept v (f v n q)) (λ q. q) (g .marked v n e)
+
+  pub seed-zero : ((j : ℕ) → o ≤ j → getD k j 0 ≡ 0) → (j : ℕ) → o + 1 ≤ j → getD (set k o x) j 0 ≡ 0
+  seed-zero f j h =
+      let ne : j ≡ o → ⊥ = λ e. omega arith in
+      getD-set-other k o j x 0 ne ∙ f j (omega arith)
+
+-- the words of nothing
+pub getD-none : (k j : ℕ) → getD {A = ℕ} (replicate k 0) j 0 ≡ 0
+getD-none zero j = refl
+getD-none (suc k) zero = refl
+getD-none (suc k) (suc j) = getD-none k j
+
+pub by-none : (k : List ℕ) (i : ℕ) → By k (replicate i 0)
+by-none k i v n e = absurd (no-digit i v n e)
+
+pub covers-none : (i : ℕ) (t : List ℕ) → Covered (replicate i 0) t
+covers-none i t o v n p e h = absurd (no-digit i o n h)
+
+-- nothing is followed yet
+pub going-start : (m : Scene) (f k t : List ℕ) (d i : ℕ) → Seeded m k t d → Going m f k t (replicate i 0) d
+going-start m f k t d i s =
+    record {
+      begun = s .begun;
+      by = s .by;
+      covers = s .covers;
+      applied = λ v n j h p e. absurd (no-digit i v n e);
+      spared = λ v j n l h e. absurd (no-digit i v n e);
+      left = λ v n h e. inl (s .marked v n e);
+    }

@@ -1,6 +1,7 @@
 -- The binary digits of a word, lowest first.
 use Prim.Native.Nat.{ℕ, zero, suc, _/_, _%_, _≤_, _<_}
 use mathlib.Core.Path.{_≡_}
+use mathlib.Core.Logic.{_⊎_}
 
 unfoldable pub bit : ℕ → ℕ → ℕ
 bit n zero = n % 2
@@ -12,3 +13,15 @@ pub record Next (w from r : ℕ) : Type 0 where
   pub high : r ≤ 64
   pub clear : (k : ℕ) → from ≤ k → k < r → bit w k ≡ 1 → ⊥
   pub isSet : r < 64 → bit w r ≡ 1
+
+-- r is the word w without its digit k
+pub record Cleared (w k r : ℕ) : Type 0 where
+  pub rest : (j : ℕ) → bit r j ≡ 1 → bit w j ≡ 1
+  pub all : (j : ℕ) → bit w j ≡ 1 → (j ≡ k) ⊎ (bit r j ≡ 1)
+  pub less : r < w
+
+-- r has the digits of a that b does not have
+pub record Without (a b r : ℕ) : Type 0 where
+  pub here : (k : ℕ) → bit r k ≡ 1 → bit a k ≡ 1
+  pub other : (k : ℕ) → bit r k ≡ 1 → bit b k ≡ 1 → ⊥
+  pub all : (k : ℕ) → bit a k ≡ 1 → (bit b k ≡ 1) ⊎ (bit r k ≡ 1)

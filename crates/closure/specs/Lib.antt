@@ -3,3 +3,4 @@ pub mod Rules
 pub mod Scene
 pub mod Words
 pub mod Search
+pub mod Today

@@ -1,12 +1,11 @@
 -- The tests of the closure's rules by the columns that the code looks at. proofs/Ranges has that in range these are the
 -- model's.
-use Prim.Native.Nat.{ℕ, _+_, _^_}
-use mathlib.Core.Bool.{Bool, not, cond, _&&_, _||_}
+use Prim.Native.Nat.{ℕ}
+use mathlib.Core.Bool.{Bool, not, _&&_, _||_}
 use mathlib.Core.List.{List}
-use lib.Bits.{bitOr}
 use lib.Dec.{eqb}
 use lib.ListN.{getD}
-use Rattle.model.specs.Config.{mostDevices, Entry, reads, writes}
+use Rattle.model.specs.Config.{Entry, reads, writes}
 use Rattle.model.specs.State.{State, deviceIn, objectIn}
 
 -- the kinds of a descriptor
@@ -44,8 +43,3 @@ crossing kind b c o = eqb (getD kind o 0) 4 || not (eqb (objectIn b o) (deviceIn
 -- object o is concerned, and device c another one than the one left out
 unfoldable pub naming : List ℕ → ℕ → ℕ → ℕ → Bool
 naming concerned but c o = not (eqb c but) && eqb (getD concerned o 0) 1
-
--- what an entry, read by the devices of the word r, adds to the word of its object
-abbrev pub gainOf : List ℕ → Bool → ℕ → Entry → ℕ
-gainOf kind storing r e =
-    bitOr (cond (opens kind e) r 0) (cond (stores kind storing e) (2 ^ (e .value + mostDevices)) 0)

@@ -5,7 +5,16 @@ use mathlib.Core.Path.{_≡_}
 use mathlib.Core.Bool.{Bool, true}
 use mathlib.Core.List.{List}
 use lib.ListN.{length, getD}
-use Rattle.model.specs.Config.{mostDevices, mostObjects, mostValues, mostEntries, entryPlace, Entry, entryAt}
+use Rattle.model.specs.Config.{
+  mostDevices,
+  mostObjects,
+  mostValues,
+  mostEntries,
+  mostMode,
+  entryPlace,
+  Entry,
+  entryAt,
+}
 use Rattle.model.specs.State.{State, held, areaLength, view}
 use Rattle.model.specs.declared.Counts.{Counts}
 use Rattle.model.specs.declared.Devices.{Devices}
@@ -68,6 +77,7 @@ pub record In (n k : ℕ) : Type 0 where
 pub record EntryOk (entries : List ℕ) (at : ℕ) : Type 0 where
   pub place : at ≤ entryPlace mostValues mostEntries
   pub object : getD entries at 0 ≤ mostObjects
+  pub mode : In mostMode (getD entries (at + 1) 0)
   pub stored : getD entries (at + 2) 0 ≤ mostValues
 
 -- the values of an accepted configuration
@@ -79,6 +89,8 @@ pub record ValuesOk (n : Counts) (count entries : List ℕ) : Type 0 where
   pub few-entries : (v : ℕ) → v ≤ n .values → getD count v 0 ≤ mostEntries
   pub object-known : (v j : ℕ) → v ≤ n .values → In (getD count v 0) j
       → In (n .objects) (getD entries (entryPlace v j) 0)
+  pub mode-known : (v j : ℕ) → v ≤ n .values → In (getD count v 0) j
+      → In mostMode (getD entries (entryPlace v j + 1) 0)
   pub stored-known : (v j : ℕ) → v ≤ n .values → In (getD count v 0) j
       → getD entries (entryPlace v j + 2) 0 ≤ n .values
 

@@ -1,19 +1,30 @@
 -- What a search over the words of the closure finds.
 use Prim.Native.Nat.{ℕ, _+_, _-_, _≤_, _<_}
 use mathlib.Core.Path.{_≡_}
-use mathlib.Core.Bool.{Bool, true, false, not, _&&_, _||_}
+use mathlib.Core.Logic.{_⊎_}
+use mathlib.Core.Bool.{Bool, true, false, not, _&&_}
 use mathlib.Core.List.{List, List·Memᴰ}
 use lib.ListN.{getD}
 use lib.Dec.{eqb}
-use Rattle.model.specs.Config.{mostDevices, Entry, reads, writes, entryPlace, entryAt, entries}
+use Rattle.model.specs.Config.{Entry, entryPlace, entries}
 use Rattle.model.specs.State.{State, deviceIn}
-use Rattle.model.specs.Closure.{Reads, crosses, described}
-use Rattle.model.specs.Questions.{readEntry, writeEntry}
+use Rattle.model.specs.Closure.{Reads, crosses}
 use Rattle.model.specs.declared.Counts.{Counts}
 use Rattle.model.specs.declared.Config.{Config}
 use Rattle.closure.specs.Digits.{bit}
 use Rattle.closure.specs.Scene.{Scene, entryOf, countOf, In}
-use Rattle.closure.specs.Words.{Has, ReaderIn, PairIn, DoneRight}
+use Rattle.closure.specs.Words.{
+  Has,
+  ReaderIn,
+  PairIn,
+  Covered,
+  Paired,
+  By,
+  Sound,
+  Applied,
+  Begun,
+  Closed,
+}
 use Rattle.closure.specs.declared.search.Finding.{Finding}
 use Rattle.closure.specs.declared.search.Finding.the-variants.{Found, Nothing}
 
@@ -36,26 +47,24 @@ Fines bad n f = (o : ℕ) → In (n .objects) o → FineWord bad (n .devices) o 
 abbrev pub NoStrange : List ℕ → List ℕ → ℕ → ℕ → ℕ → Type 0
 NoStrange table f w v i = (j n : ℕ) → 1 ≤ j → j < i → bit w n ≡ 1 → Has f (getD table (entryPlace v j) 0) n
 
--- s has a word for each value: for the values below w, devices that may name every object of the value
-abbrev pub Safe : List ℕ → List ℕ → List ℕ → List ℕ → ℕ → Type 0
-Safe count table f s w = (v : ℕ) → v < w → NoStrange table f (getD s v 0) v (getD count v 0 + 1)
+-- each device of s is in the word r, and may not name the object of some entry of value v
+abbrev pub StrangeIn : List ℕ → List ℕ → List ℕ → ℕ → ℕ → ℕ → Type 0
+StrangeIn count table f r v s =
+    (n : ℕ) → bit s n ≡ 1
+    → (bit r n ≡ 1) × (j : ℕ) × In (getD count v 0) j × (Has f (getD table (entryPlace v j) 0) n → ⊥)
 
--- of the values below w those without a digit in r have only devices in t that they have in s
-abbrev pub Spared : List ℕ → List ℕ → ℕ → ℕ → Type 0
-Spared t s r w = (v : ℕ) → v < w → (bit r (v + mostDevices) ≡ 1 → ⊥) → (n : ℕ) → Has t v n → Has s v n
-
--- of the word of descriptor o, what a device c that reads o has to look at: the digits of q
-pub record Live (k : List ℕ) (c o q r : ℕ) : Type 0 where
-  pub reading : (j : ℕ) → bit r j ≡ 1 → ReaderIn k c o
-  pub here : (j : ℕ) → bit r j ≡ 1 → Has k o j
-  pub all : (j : ℕ) → ReaderIn k c o → Has k o j → bit q j ≡ 1 → bit r j ≡ 1
+-- how many entries the pair (o, v) has for device i + 1, if it reads the pair
+pub record Listed (count k : List ℕ) (i o v r : ℕ) : Type 0 where
+  pub reading : 1 ≤ r → Has k o i
+  pub paired : 1 ≤ r → PairIn k o v
+  pub few : r ≤ getD count v 0
+  pub all : Has k o i → PairIn k o v → r ≡ getD count v 0
 
 module _ (count table k f : List ℕ) where
-  -- if value v has a digit in q, device c may name the objects of the pair (o, v)
-  abbrev pub PairFine : ℕ → ℕ → ℕ → ℕ → Type 0
-  PairFine q c o v =
-      ReaderIn k c o → PairIn k o v → bit q (v + mostDevices) ≡ 1 → (j : ℕ) → In (getD count v 0) j
-      → Has f (getD table (entryPlace v j) 0) (c - 1)
+  -- device i + 1 may name the objects of the pair (o, v)
+  abbrev pub PairFine : ℕ → ℕ → ℕ → Type 0
+  PairFine i o v =
+      Has k o i → PairIn k o v → (j : ℕ) → In (getD count v 0) j → Has f (getD table (entryPlace v j) 0) i
 
   -- device c may not name the object of entry j of the pair (o, v)
   pub record IsStrange (c o v j : ℕ) : Type 0 where
@@ -64,17 +73,37 @@ module _ (count table k f : List ℕ) where
     pub there : In (getD count v 0) j
     pub strange : Has f (getD table (entryPlace v j) 0) (c - 1) → ⊥
 
-  -- the entry that is named is such, or there is none
-  abbrev pub Finds : Counts → ℕ → Finding → Type 0
-  Finds n q (Found c o v j) = IsStrange c o v j
-  Finds n q Nothing = (c o v : ℕ) → In (n .devices) c → In (n .objects) o → v ≤ n .values → PairFine q c o v
+  -- the entry that is named is such, or there is none of value v for the devices of the word d
+  abbrev pub Finds : Counts → ℕ → ℕ → Finding → Type 0
+  Finds n d w (Found c o v j) = IsStrange c o v j
+  Finds n d w Nothing = (i o : ℕ) → i < n .devices → bit d i ≡ 1 → In (n .objects) o → PairFine i o w
 
-  -- the entry that is named is such, or there is none among those of devices that stand in the words of t
-  abbrev pub Looked : Counts → List ℕ → Finding → Type 0
-  Looked n t (Found c o v j) = IsStrange c o v j
-  Looked n t Nothing =
-      (c o v j : ℕ) → In (n .devices) c → In (n .objects) o → v ≤ n .values → ReaderIn k c o → PairIn k o v
-      → Has t v (c - 1) → In (getD count v 0) j → Has f (getD table (entryPlace v j) 0) (c - 1)
+-- while the words grow
+module _ (m : Scene) (f : List ℕ) where
+  pub record Going (k t a : List ℕ) (d : ℕ) : Type 0 where
+    pub begun : Begun m k
+    pub by : By k t
+    pub covers : Covered k t
+    pub applied : Applied m k a
+    -- the devices in the words of a may name what they were given
+    pub spared : (v : ℕ) → NoStrange (m .config .values .entries) f (getD a v 0) v (countOf m v + 1)
+    -- what is not in a yet is still to be done
+    pub left : (v n : ℕ) → v ≤ m .config .counts .values → Has t v n → (bit d v ≡ 1) ⊎ Has a v n
+
+  -- no rule adds to k, and every device may name what it has an entry for
+  pub record Ended (k : List ℕ) : Type 0 where
+    pub sound : Sound m k
+    pub closed : Closed m k
+    pub fine : (c o v j : ℕ) → ReaderIn k c o → PairIn k o v → In (countOf m v) j
+        → Has f (entryOf m v j .object) (c - 1)
+
+  -- device n + 1 reads a pair with value v, which has an entry for an object that it may not name
+  pub record Suspected (k : List ℕ) (n v : ℕ) : Type 0 where
+    pub sound : Sound m k
+    pub paired : Paired k (n + 1) v
+    pub entry : ℕ
+    pub there : In (countOf m v) entry
+    pub strange : Has f (entryOf m v entry .object) n → ⊥
 
 -- entry j of value v, in a pair of descriptor o that device c reads, is bad
 pub record Hit (m : Scene) (bad : ℕ → Entry → Bool) (c o v j : ℕ) : Type 0 where
@@ -111,35 +140,3 @@ abbrev pub IsNaming : Config → State → (ℕ → Bool) → ℕ → Finding �
 IsNaming config b concerned but (Found c o v j) =
     Hit (closureOf config b) (λ d e. not (eqb d but) && concerned (e .object)) c o v j
 IsNaming config b concerned but Nothing = Unit {0}
-
--- question 18
-
--- the entry is of the wanted mode, and for kind 1 with the wanted stored value
-unfoldable pub gives : ℕ → Bool → ℕ → Entry → Bool
-gives kind write w e = write && writes e && (not (eqb kind 1) || eqb (e .value) w) || not write && reads e
-
--- and names object n
-abbrev pub describes : List ℕ → ℕ → Bool → ℕ → Entry → Bool
-describes kind n write w e = eqb (e .object) n && gives (getD kind (e .object) 0) write w e
-
--- an entry for a write to object n, for kind 1 with the stored value w; or for a read of it
-abbrev pub wanted : Config → ℕ → Bool → ℕ → Entry → Bool
-wanted config n true w = writeEntry config n w
-wanted config n false w = readEntry n
-
--- device c has such an entry with today's values
-abbrev pub isDescribed : Scene → ℕ → ℕ → Bool → ℕ → Bool
-isDescribed m c n write w = described (m .config) (m .state) c (wanted (m .config) n write w)
-
--- the word of each value has the devices that read a pair with it
-pub record Today (m : Scene) (t : List ℕ) : Type 0 where
-  pub right : DoneRight m t
-  pub all : (c o v : ℕ) → Reads (m .config) (m .storing) (m .state) c o v
-      → (v ≤ m .config .counts .values) × In mostDevices c × Has t v (c - 1)
-
--- value v, whose word is x, has an entry for device c that passes; or if r is false, it has none
-pub record Offers (count table : List ℕ) (x c v : ℕ) (ok : Entry → Bool) (r : Bool) : Type 0 where
-  pub some : r ≡ true
-      → (bit x (c - 1) ≡ 1) × (j : ℕ) × In (getD count v 0) j × (ok (entryAt table (entryPlace v j)) ≡ true)
-  pub none : r ≡ false → bit x (c - 1) ≡ 1 → (j : ℕ) → In (getD count v 0) j
-      → ok (entryAt table (entryPlace v j)) ≡ true → ⊥

@@ -1,17 +1,19 @@
--- Sets of devices and values as digits of words, and what each part of a sweep does to them.
+-- Sets of devices and values as digits of words, and how they grow.
 -- k: a word for each descriptor; digit c - 1: device c reads it; digit v + 16: its pair with value v is collected.
--- t: a word for each value; digit c - 1: what its entries give to device c is in k.
--- z: a word for each descriptor, what its word was when it was visited last.
+-- t: a word for each value; digit c - 1: device c reads a pair with it.
+-- a: a word for each value; digit c - 1: what its entries give to device c is in k.
+-- d: a word of values, those with something to do: digit v: t may have devices for v that a lacks.
 use Prim.Native.Nat.{ℕ, zero, _+_, _-_, _^_, _≤_, _<_}
 use mathlib.Core.Path.{_≡_}
-use mathlib.Core.Bool.{Bool, true, false}
+use mathlib.Core.Logic.{_⊎_}
+use mathlib.Core.Bool.{Bool, true}
 use mathlib.Core.List.{List, [], _∷_}
 use lib.ListN.{getD, length}
-use Rattle.model.specs.Config.{mostDevices, hardcodedTo}
+use Rattle.model.specs.Config.{mostDevices, hardcodedTo, Entry}
 use Rattle.model.specs.State.{State, held}
 use Rattle.model.specs.Closure.{active, live, Collected, Reads}
 use Rattle.closure.specs.Digits.{bit}
-use Rattle.closure.specs.Rules.{opens, stores, owned}
+use Rattle.closure.specs.Rules.{opens, stores, starts, owned}
 use Rattle.closure.specs.Scene.{Scene, entryOf, countOf, In}
 
 -- digit k of word j is set
@@ -30,31 +32,77 @@ PairIn k o v = Has k o (v + mostDevices)
 pub record Wider (b b′ : List ℕ) : Type 0 where
   pub kept : (j n : ℕ) → Has b j n → Has b′ j n
 
--- w is the last value: all devices and values of the word x have been dealt with
-abbrev pub Covers : ℕ → ℕ → List ℕ → Type 0
-Covers w x t = (v n : ℕ) → v ≤ w → n < mostDevices → bit x (v + mostDevices) ≡ 1 → bit x n ≡ 1 → Has t v n
-
-abbrev pub Covered : ℕ → List ℕ → List ℕ → ℕ → Type 0
-Covered w k t o = Covers w (getD k o 0) t
-
--- from descriptor o up to r, words are as they were seen
-abbrev pub Unchanged : List ℕ → List ℕ → ℕ → ℕ → Type 0
-Unchanged k z o r = (j : ℕ) → o ≤ j → j < r → getD k j 0 ≡ getD z j 0
+-- a word of devices
+abbrev pub Low : ℕ → Type 0
+Low r = (n : ℕ) → bit r n ≡ 1 → n < mostDevices
 
 -- the devices of the word r are in the word of value v
 abbrev pub TouchedIn : List ℕ → ℕ → ℕ → Type 0
 TouchedIn t r v = (n : ℕ) → bit r n ≡ 1 → Has t v n
+
+-- each device of the word x is in the word of each value of x
+abbrev pub Covers : ℕ → List ℕ → Type 0
+Covers x t = (v n : ℕ) → n < mostDevices → bit x (v + mostDevices) ≡ 1 → bit x n ≡ 1 → Has t v n
+
+abbrev pub Covered : List ℕ → List ℕ → Type 0
+Covered k t = (o : ℕ) → Covers (getD k o 0) t
+
+-- device c reads a descriptor whose pair with value v is collected
+pub record Paired (k : List ℕ) (c v : ℕ) : Type 0 where
+  pub object : ℕ
+  pub reading : ReaderIn k c object
+  pub paired : PairIn k object v
+
+abbrev pub By : List ℕ → List ℕ → Type 0
+By k t = (v n : ℕ) → Has t v n → Paired k (n + 1) v
 
 -- how far words are from full
 unfoldable pub slack : List ℕ → ℕ
 slack [] = zero
 slack (x ∷ xs) = (2 ^ 64 - x) + slack xs
 
+-- the devices of the word r were given to the values of Q: t and d became t′ and d′
+pub record Gave (Q : ℕ → Type 0) (r : ℕ) (t t′ : List ℕ) (d d′ : ℕ) : Type 0 where
+  pub long : length t′ ≡ length t
+  pub wider : Wider t t′
+  pub all : (v : ℕ) → Q v → TouchedIn t′ r v
+  pub only : (v n : ℕ) → Has t′ v n → Has t v n ⊎ (Q v × (bit r n ≡ 1))
+  pub kept : (v : ℕ) → bit d v ≡ 1 → bit d′ v ≡ 1
+  pub marked : (v n : ℕ) → Has t′ v n → Has t v n ⊎ (bit d′ v ≡ 1)
+
+-- k, t and d became k′, t′ and d′
+pub record Grew (k k′ t t′ : List ℕ) (d d′ : ℕ) : Type 0 where
+  pub known-long : length k′ ≡ length k
+  pub long : length t′ ≡ length t
+  pub wider : Wider k k′
+  pub by : By k t → By k′ t′
+  pub covers : Covered k t → Covered k′ t′
+  pub kept : (v : ℕ) → bit d v ≡ 1 → bit d′ v ≡ 1
+  pub marked : (v n : ℕ) → Has t′ v n → Has t v n ⊎ (bit d′ v ≡ 1)
+
+-- the word of o has the digits of g too, if b says so
+pub record Added (b : Bool) (o g : ℕ) (k k′ : List ℕ) : Type 0 where
+  pub only : (j n : ℕ) → Has k′ j n → Has k j n ⊎ ((b ≡ true) × (j ≡ o) × (bit g n ≡ 1))
+  pub all : b ≡ true → (n : ℕ) → bit g n ≡ 1 → Has k′ o n
+
+-- an entry, read by the devices of the word r, was followed: its object's word has what it gives
+pub record Followed (kind : List ℕ) (e : Entry) (r : ℕ) (k k′ : List ℕ) : Type 0 where
+  pub only : (j n : ℕ) → Has k′ j n → Has k j n ⊎ ((j ≡ e .object)
+      × (((opens kind e ≡ true) × (bit r n ≡ 1)) ⊎ ((stores kind true e ≡ true) × (n ≡ e .value + mostDevices))))
+  pub opened : opens kind e ≡ true → (n : ℕ) → bit r n ≡ 1 → Has k′ (e .object) n
+  pub stored : stores kind true e ≡ true → PairIn k′ (e .object) (e .value)
+
 -- the word of the active device whose hardcoded descriptor o is
 pub record OwnWord (kind class owner : List ℕ) (b : State) (o x : ℕ) : Type 0 where
   pub low : (n : ℕ) → bit x n ≡ 1 → n < mostDevices
   pub right : (n : ℕ) → bit x n ≡ 1 → owned kind class owner b (n + 1) o ≡ true
   pub all : (n : ℕ) → owned kind class owner b (n + 1) o ≡ true → bit x n ≡ 1
+
+-- the word of the value, one up to w, that object o holds if it is an active descriptor
+pub record ValueWord (w : ℕ) (kind : List ℕ) (b : State) (o x : ℕ) : Type 0 where
+  pub right : (n : ℕ) → bit x n ≡ 1
+      → (starts kind b o ≡ true) × (n ≡ held b o + mostDevices) × (held b o ≤ w)
+  pub all : starts kind b o ≡ true → bit x (held b o + mostDevices) ≡ 1
 
 module _ (m : Scene) where
   -- a digit of a device says that it reads every collected pair of the descriptor
@@ -75,10 +123,6 @@ module _ (m : Scene) where
     pub readers : (n : ℕ) → n < mostDevices → bit x n ≡ 1 → RightReader (n + 1) o
     pub values : (v : ℕ) → bit x (v + mostDevices) ≡ 1 → RightPair o v
 
-  pub record Whose (x : ℕ) : Type 0 where
-    pub object : ℕ
-    pub right : RightWord object x
-
   abbrev pub Sound : List ℕ → Type 0
   Sound k = (o : ℕ) → RightWord o (getD k o 0)
 
@@ -97,46 +141,13 @@ module _ (m : Scene) where
     pub stored : stores (m .config .objects .kind) (m .storing) (entryOf m v j) ≡ true
         → PairIn k (entryOf m v j .object) (entryOf m v j .value)
 
-  -- each device of the word of a value reads a pair with that value
-  abbrev pub DoneRight : List ℕ → Type 0
-  DoneRight t = (v n : ℕ) → Has t v n → Reading (n + 1) v
-
-  -- k became k′. If what it goes by holds, right words stay right
-  pub record Widened (Given : Type 0) (k k′ : List ℕ) : Type 0 where
-    pub long : length k′ ≡ length k
-    pub wider : Wider k k′
-    pub sound : Given → Sound k → Sound k′
-
   -- what the entries of value v below i give to the devices of r is in k
   abbrev pub EntriesIn : List ℕ → ℕ → ℕ → ℕ → Type 0
   EntriesIn k r v i =
       (j : ℕ) → 1 ≤ j → j < i → (n : ℕ) → n < mostDevices → bit r n ≡ 1 → EntryIn k (n + 1) v j
 
   abbrev pub Applied : List ℕ → List ℕ → Type 0
-  Applied k t = (v n j : ℕ) → n < mostDevices → In (countOf m v) j → Has t v n → EntryIn k (n + 1) v j
-
-  -- k and t became k′ and t′; r says whether there was anything to do
-  pub record Stepped (Given : Type 0) (k k′ t t′ : List ℕ) (r : Bool) : Type 0 where
-    pub known : Widened Given k k′
-    pub long : length t′ ≡ length t
-    pub wider : Wider t t′
-    pub right : Given → Sound k → DoneRight t → DoneRight t′
-    pub applied : Applied k t → Applied k′ t′
-    pub same-known : r ≡ false → k′ ≡ k
-    pub same-done : r ≡ false → t′ ≡ t
-    pub slack-le : slack t′ ≤ slack t
-    pub slack-lt : r ≡ true → slack t′ < slack t
-
-  -- what was seen of each descriptor has been dealt with
-  abbrev pub SeenIn : List ℕ → List ℕ → Type 0
-  SeenIn z t = (o : ℕ) → Covers (m .config .counts .values) (getD z o 0) t
-
-  -- the same with z; if there was nothing to do, Done holds
-  pub record Swept (k k′ t t′ z z′ : List ℕ) (r : Bool) (Done : Type 0) : Type 0 where
-    pub step : Stepped (Unit {0}) k k′ t t′ r
-    pub long : length z′ ≡ length z
-    pub seen : SeenIn z t → SeenIn z′ t′
-    pub done : r ≡ false → SeenIn z t → Done
+  Applied k a = (v n j : ℕ) → n < mostDevices → In (countOf m v) j → Has a v n → EntryIn k (n + 1) v j
 
   pub record BegunAt (k : List ℕ) (o : ℕ) : Type 0 where
     pub started : live (m .config) (m .state) o ≡ true → Has k o (held (m .state) o + mostDevices)
@@ -153,32 +164,18 @@ module _ (m : Scene) where
     pub given : (o : ℕ) → In (m .config .counts .objects) o → BegunAt k o
     pub owners : Owners
 
-  pub record Before (k t z : List ℕ) : Type 0 where
+  -- before any step: what is read is still to be followed
+  pub record Seeded (k t : List ℕ) (d : ℕ) : Type 0 where
     pub begun : Begun k
-    pub right : DoneRight t
-    pub applied : Applied k t
-    pub seen : SeenIn z t
+    pub by : By k t
+    pub covers : Covered k t
+    pub marked : (v n : ℕ) → Has t v n → bit d v ≡ 1
 
   -- no rule adds to k
   pub record Closed (k : List ℕ) : Type 0 where
     pub started : (o : ℕ) → live (m .config) (m .state) o ≡ true → PairIn k o (held (m .state) o)
     pub owned : (c o : ℕ) → active (m .state) c ≡ true → hardcodedTo (m .config) c o ≡ true → ReaderIn k c o
     pub entries : (c o v j : ℕ) → ReaderIn k c o → PairIn k o v → In (countOf m v) j → EntryIn k c v j
-
-  -- k has what the rules give, and nothing else; so has t, the devices that read a pair with each value
-  pub record Settled (k t : List ℕ) : Type 0 where
-    pub sound : Sound k
-    pub closed : Closed k
-    pub right : DoneRight t
-    pub covers : (o : ℕ) → In (m .config .counts .objects) o → Covered (m .config .counts .values) k t o
-
-  -- k, t and z became k′, t′ and z′ by sweeps, of which the last may have stopped before its end; r says whether it did
-  pub record Rushed (k k′ t t′ z z′ : List ℕ) (r : Bool) : Type 0 where
-    pub known-long : length k′ ≡ length k
-    pub done-long : length t′ ≡ length t
-    pub seen-long : length z′ ≡ length z
-    pub kept : Before k t z → Before k′ t′ z′
-    pub settled : r ≡ false → Before k t z → Settled k′ t′
 
   -- the word of o before any step
   pub record FirstWord (o x : ℕ) : Type 0 where

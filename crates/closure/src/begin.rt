@@ -1,15 +1,25 @@
 // The words before any step: the device that a hardcoded descriptor belongs to, and the value that a descriptor holds.
 use crate::area;
-use crate::grow::FIRST_VALUE;
 use crate::rules;
+use crate::spread;
+use crate::spread::DEVICE_WORDS;
+use crate::spread::FIRST_VALUE;
 use crate::words;
 ghost use mathlib.Core.Path.{_≡_};
-ghost use lib.ListN.{length};
+ghost use Prim.Native.Nat.{_+_, _%_, _^_};
+ghost use lib.ListN.{length, replicate, getD};
+ghost use mathlib.Core.Bool.{true};
+ghost use Rattle.model.specs.Config.{mostDevices};
 ghost use Rattle.model.specs.State.{view};
-ghost use Rattle.closure.specs.Scene.{In, Scene, starting, OwnersOk, AreaOk, objectSlots};
-ghost use Rattle.closure.specs.Words.{OwnWord, FirstWord, Begun};
+ghost use Rattle.closure.specs.Scene.{In, Scene, starting, OwnersOk, AreaOk, objectSlots, valueSlots};
+ghost use Rattle.closure.specs.Digits.{bit};
+ghost use Rattle.closure.specs.Words.{OwnWord, ValueWord, FirstWord, Gave, Seeded};
+ghost use Rattle.closure.specs.Rules.{holdsValue};
 use model::Counts;
+use model::HARDCODED_KIND;
 use model::OBJECT_SLOTS;
+use model::TRANSFER_KIND;
+use model::VALUE_SLOTS;
 
 // The device whose hardcoded descriptor o is, if it is active.
 fn owner_of<'a>(
@@ -40,6 +50,20 @@ fn owner_of<'a>(
     )
 }
 
+// The value that descriptor o holds, if it is active.
+fn value_of(counts: Counts, kind: &[u8; OBJECT_SLOTS], area: &[u8], room: usize, o: usize) -> u64
+    requires { ⌜ AreaOk counts (now kind) (now area) room ⌝ }
+    requires { ⌜ In (counts .objects) o ⌝ }
+    requires { ⌜ holdsValue (getD (now kind) o 0) ≡ true ⌝ }
+    ensures { λ x. ⌜ ValueWord (counts .values) (now (kind .entry)) (view room (now (area .entry))) o x ⌝ }
+{
+    if area::object_in(area, room, o) == 0 {
+        return 0;
+    }
+    let w = rules::wide(area::held_by(area, room, o));
+    words::power(w + FIRST_VALUE)
+}
+
 // The word of o before any step: its device, and the value that it holds if it is active.
 fn first<'a>(
     counts: Counts,
@@ -57,14 +81,31 @@ fn first<'a>(
         ⌜ ((m : Scene) → FirstWord (starting m counts (now (kind .entry)) (now (class .entry)) (now (owner .entry))
         (view room (now (area .entry)))) o x) ⌝ }
 {
-    if !rules::is_live(kind, area, room, o) {
-        return owner_of(counts, kind, class, owner, area, room, o);
+    if kind[o] == TRANSFER_KIND {
+        return value_of(counts, kind, area, room, o);
     }
-    let w = rules::wide(area::held_by(area, room, o));
-    owner_of(counts, kind, class, owner, area, room, o) | words::power(w + FIRST_VALUE)
+    if kind[o] == HARDCODED_KIND {
+        return owner_of(counts, kind, class, owner, area, room, o)
+            | value_of(counts, kind, area, room, o);
+    }
+    0
 }
 
-// The words of all descriptors before any step.
+// The devices of the word x read its values.
+fn seed(reach: &mut [u64; VALUE_SLOTS], todo: u64, x: u64) -> u64
+    requires { ⌜ length (now reach) ≡ valueSlots ⌝ }
+    ensures { λ d.
+        ⌜ Gave (λ u. bit x (u + mostDevices) ≡ 1) (x % 2 ^ mostDevices) (now (reach .entry)) (now (reach .exit)) todo
+        d ⌝ }
+{
+    let r = x % DEVICE_WORDS;
+    if r == 0 {
+        return todo;
+    }
+    spread::spread(reach, todo, x, r)
+}
+
+// The words of all descriptors before any step, into words that are 0: the values with something to do.
 pub fn begin<'a>(
     counts: Counts,
     kind: &'a [u8; OBJECT_SLOTS],
@@ -72,20 +113,27 @@ pub fn begin<'a>(
     owner: &'a [u8; OBJECT_SLOTS],
     area: &[u8],
     room: usize,
-) -> [u64; OBJECT_SLOTS]
+    known: &mut [u64; OBJECT_SLOTS],
+    reach: &mut [u64; VALUE_SLOTS],
+) -> u64
     requires { ⌜ OwnersOk counts (now class) (now owner) ⌝ }
     requires { ⌜ AreaOk counts (now kind) (now area) room ⌝ }
-    ensures { λ k. ⌜ length k ≡ objectSlots ⌝ }
-    ensures { λ k.
-        ⌜ ((m : Scene) → Begun (starting m counts (now (kind .entry)) (now (class .entry)) (now (owner .entry))
-        (view room (now (area .entry)))) k) ⌝ }
+    requires { ⌜ now known ≡ replicate objectSlots 0 ⌝ }
+    requires { ⌜ now reach ≡ replicate valueSlots 0 ⌝ }
+    ensures { λ d. ⌜ length (now (known .exit)) ≡ objectSlots ⌝ }
+    ensures { λ d. ⌜ length (now (reach .exit)) ≡ valueSlots ⌝ }
+    ensures { λ d.
+        ⌜ ((m : Scene) → Seeded (starting m counts (now (kind .entry)) (now (class .entry)) (now (owner .entry))
+        (view room (now (area .entry)))) (now (known .exit)) (now (reach .exit)) d) ⌝ }
 {
     let last = counts.objects as usize;
-    let mut known = [0u64; OBJECT_SLOTS];
+    let mut d = 0;
     let mut o = 1;
     while o <= last {
-        known[o] = first(counts, kind, class, owner, area, room, o);
+        let x = first(counts, kind, class, owner, area, room, o);
+        known[o] = x;
+        d = seed(reach, d, x);
         o += 1;
     }
-    known
+    d
 }

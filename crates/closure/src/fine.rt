@@ -1,23 +1,19 @@
-// Which devices may name an object: a word for each object; and all objects of a value: a word for each value.
+// Which devices may name an object: a word for each object.
 use crate::area;
 use crate::rules;
-use crate::rules::ENTRY_ROOM;
 use crate::words;
 ghost use mathlib.Core.Path.{_≡_};
 ghost use Prim.Native.Nat.{ℕ, _+_, _≤_};
-ghost use lib.ListN.{length, getD};
+ghost use lib.ListN.{length};
 ghost use Rattle.model.specs.Config.{mostDevices, mostObjects};
 ghost use Rattle.model.specs.State.{areaLength, view};
-ghost use Rattle.closure.specs.Scene.{In, ValuesOk};
+ghost use Rattle.closure.specs.Scene.{In};
 ghost use Rattle.closure.specs.Digits.{bit};
 ghost use Rattle.closure.specs.Rules.{crossing, naming};
-ghost use Rattle.closure.specs.Search.{Parts, FineWord, Fines, NoStrange, Safe};
+ghost use Rattle.closure.specs.Search.{Parts, FineWord, Fines};
 use model::Counts;
-use model::ENTRY_BYTES;
-use model::ENTRY_SLOTS;
 use model::HARDCODED_KIND;
 use model::OBJECT_SLOTS;
-use model::VALUE_SLOTS;
 
 // How many numbers a byte, a partition, can be.
 const BYTES: usize = 256;
@@ -118,49 +114,4 @@ pub fn all_unconcerned(
         o += 1;
     }
     f
-}
-
-// The devices that may name the objects of all entries of value v.
-fn of_value<'a>(
-    counts: Counts,
-    count: &'a [u8; VALUE_SLOTS],
-    entries: &'a [u8; ENTRY_SLOTS],
-    fine: &[u64; OBJECT_SLOTS],
-    v: usize,
-) -> u64
-    requires { ⌜ ValuesOk counts (now count) (now entries) ⌝ }
-    requires { ⌜ v ≤ counts .values ⌝ }
-    ensures { λ r.
-        ⌜ NoStrange (now (entries .entry)) (now (fine .entry)) r v (getD (now (count .entry)) v 0 + 1) ⌝ }
-{
-    let most = count[v] as usize;
-    let mut w = ALL_DEVICES;
-    let mut j = 1;
-    while j <= most {
-        let o = entries[ENTRY_BYTES * (ENTRY_ROOM * v + j)] as usize;
-        w = w & fine[o];
-        j += 1;
-    }
-    w
-}
-
-// For each value the devices that may name the objects of all its entries.
-pub fn of_values<'a>(
-    counts: Counts,
-    count: &'a [u8; VALUE_SLOTS],
-    entries: &'a [u8; ENTRY_SLOTS],
-    fine: &[u64; OBJECT_SLOTS],
-) -> [u64; VALUE_SLOTS]
-    requires { ⌜ ValuesOk counts (now count) (now entries) ⌝ }
-    ensures { λ r.
-        ⌜ Safe (now (count .entry)) (now (entries .entry)) (now (fine .entry)) r (counts .values + 1) ⌝ }
-{
-    let last = counts.values as usize;
-    let mut s = [0u64; VALUE_SLOTS];
-    let mut v = 0;
-    while v <= last {
-        s[v] = of_value(counts, count, entries, fine, v);
-        v += 1;
-    }
-    s
 }

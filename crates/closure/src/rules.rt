@@ -3,13 +3,11 @@ use crate::area;
 ghost use mathlib.Core.Path.{_≡_};
 ghost use Prim.Native.Nat.{_<_, _≤_};
 ghost use lib.ListN.{length};
-ghost use Rattle.model.specs.Config.{mostDevices, mostObjects, entryAt};
+ghost use Rattle.model.specs.Config.{mostDevices, mostMode, mostObjects};
 ghost use Rattle.model.specs.State.{areaLength, view};
-ghost use Rattle.closure.specs.Scene.{In, EntryOk};
-ghost use Rattle.closure.specs.Rules.{holdsValue, readsMode, writesMode, opens, stores, starts, owned, crossing};
-use model::BOTH_MODE;
+ghost use Rattle.closure.specs.Scene.{In};
+ghost use Rattle.closure.specs.Rules.{holdsValue, readsMode, writesMode, starts, owned};
 use model::DEVICE_CLASS;
-use model::ENTRY_SLOTS;
 use model::HARDCODED_KIND;
 use model::MOST_ENTRIES;
 use model::OBJECT_SLOTS;
@@ -27,18 +25,20 @@ fn holds_value(kind: u8) -> bool
     (kind == TRANSFER_KIND) | (kind == HARDCODED_KIND)
 }
 
-// An entry of this mode reads.
+// An entry of this mode, one of the three, reads: it does not write alone.
 pub fn is_reading(mode: u8) -> bool
+    requires { ⌜ In mostMode mode ⌝ }
     ensures { λ r. ⌜ r ≡ readsMode mode ⌝ }
 {
-    (mode == READ_MODE) | (mode == BOTH_MODE)
+    mode != WRITE_MODE
 }
 
-// An entry of this mode writes.
+// An entry of this mode, one of the three, writes: it does not read alone.
 pub fn is_writing(mode: u8) -> bool
+    requires { ⌜ In mostMode mode ⌝ }
     ensures { λ r. ⌜ r ≡ writesMode mode ⌝ }
 {
-    (mode == WRITE_MODE) | (mode == BOTH_MODE)
+    mode != READ_MODE
 }
 
 // A byte as a place of a table.
@@ -47,33 +47,6 @@ pub fn wide(x: u8) -> usize
     ensures { λ r. ⌜ r < 256 ⌝ }
 {
     x as usize
-}
-
-// The entry at a place reads a descriptor.
-pub fn is_opening<'a>(
-    kind: &'a [u8; OBJECT_SLOTS],
-    entries: &'a [u8; ENTRY_SLOTS],
-    at: usize,
-) -> bool
-    requires { ⌜ EntryOk (now entries) at ⌝ }
-    ensures { λ r. ⌜ r ≡ opens (now (kind .entry)) (entryAt (now (entries .entry)) at) ⌝ }
-{
-    let o = entries[at] as usize;
-    is_reading(entries[at + 1]) & holds_value(kind[o])
-}
-
-// The entry at a place writes an object of kind 1, and write entries count.
-pub fn is_storing<'a>(
-    kind: &'a [u8; OBJECT_SLOTS],
-    entries: &'a [u8; ENTRY_SLOTS],
-    storing: bool,
-    at: usize,
-) -> bool
-    requires { ⌜ EntryOk (now entries) at ⌝ }
-    ensures { λ r. ⌜ r ≡ stores (now (kind .entry)) storing (entryAt (now (entries .entry)) at) ⌝ }
-{
-    let o = entries[at] as usize;
-    storing & is_writing(entries[at + 1]) & (kind[o] == TRANSFER_KIND)
 }
 
 // Object o is an active descriptor.
@@ -105,15 +78,4 @@ pub fn is_owned<'a>(
 {
     let active = area::device_in(area, room, c) != 0;
     active & ((kind[o] == HARDCODED_KIND) & (class[o] == DEVICE_CLASS) & (wide(owner[o]) == c))
-}
-
-// An entry of device c that names object o crosses.
-pub fn is_crossing(kind: &[u8; OBJECT_SLOTS], area: &[u8], room: usize, c: usize, o: usize) -> bool
-    requires { ⌜ length (now area) ≡ areaLength room ⌝ }
-    requires { ⌜ In mostDevices c ⌝ }
-    requires { ⌜ In room o ⌝ }
-    requires { ⌜ o ≤ mostObjects ⌝ }
-    ensures { λ r. ⌜ r ≡ crossing (now (kind .entry)) (view room (now (area .entry))) c o ⌝ }
-{
-    (kind[o] == HARDCODED_KIND) | (area::object_in(area, room, o) != area::device_in(area, room, c))
 }

@@ -1,12 +1,13 @@
 // The search for an entry that names an object which its device may not name: nested loops over devices, pairs and
 // entries, left at the first such entry.
-use crate::grow::FIRST_VALUE;
+use crate::rules;
 use crate::rules::ENTRY_ROOM;
+use crate::spread::FIRST_VALUE;
 use crate::words;
-ghost use Prim.Native.Nat.{_≤_};
-ghost use Rattle.model.specs.Config.{mostDevices, mostObjects};
-ghost use Rattle.closure.specs.Scene.{In, ValuesOk};
-ghost use Rattle.closure.specs.Search.{Live, Finds};
+ghost use Prim.Native.Nat.{_≤_, _<_};
+ghost use Rattle.model.specs.Config.{mostDevices, mostObjects, mostValues};
+ghost use Rattle.closure.specs.Scene.{ValuesOk};
+ghost use Rattle.closure.specs.Search.{Listed, Finds};
 use model::Counts;
 use model::ENTRY_BYTES;
 use model::ENTRY_SLOTS;
@@ -19,59 +20,65 @@ pub enum Finding {
     Nothing,
 }
 
-// The digits of q in the word of descriptor o, if device c reads o.
-fn live(known: &[u64; OBJECT_SLOTS], q: u64, c: usize, o: usize) -> u64
-    requires { ⌜ In mostDevices c ⌝ }
+// How many entries the pair of descriptor o with value v has for device i + 1: none if it does not read the pair.
+fn listed(
+    count: &[u8; VALUE_SLOTS],
+    known: &[u64; OBJECT_SLOTS],
+    i: usize,
+    o: usize,
+    v: usize,
+) -> usize
+    requires { ⌜ i < mostDevices ⌝ }
     requires { ⌜ o ≤ mostObjects ⌝ }
-    ensures { λ r. ⌜ Live (now (known .entry)) c o q r ⌝ }
+    requires { ⌜ v ≤ mostValues ⌝ }
+    ensures { λ r. ⌜ Listed (now (count .entry)) (now (known .entry)) i o v r ⌝ }
 {
     let x = known[o];
-    if !words::has(x, c - 1) {
+    if !words::has(x, i) {
         return 0;
     }
-    x & q
+    if !words::has(x, v + FIRST_VALUE) {
+        return 0;
+    }
+    rules::wide(count[v])
 }
 
-// An entry of a value in q that names an object which its device may not name; `fine` has the devices that may.
+// An entry of value v, read by a device of the word d, that names an object which the device may not name; `fine` has
+// the devices that may.
 pub fn find<'a>(
     counts: Counts,
     count: &'a [u8; VALUE_SLOTS],
     entries: &'a [u8; ENTRY_SLOTS],
     known: &[u64; OBJECT_SLOTS],
     fine: &[u64; OBJECT_SLOTS],
-    q: u64,
+    d: u64,
+    v: usize,
 ) -> Finding
     requires { ⌜ ValuesOk counts (now count) (now entries) ⌝ }
+    requires { ⌜ v ≤ counts .values ⌝ }
     ensures { λ r.
-        ⌜ Finds (now (count .entry)) (now (entries .entry)) (now (known .entry)) (now (fine .entry)) counts q r ⌝ }
+        ⌜ Finds (now (count .entry)) (now (entries .entry)) (now (known .entry)) (now (fine .entry)) counts d v r ⌝ }
 {
     let devices = counts.devices as usize;
     let last = counts.objects as usize;
-    let end = (counts.values as usize) + FIRST_VALUE;
-    let mut c = 1;
+    let mut i = words::next(d, 0);
     'search: loop {
-        if devices < c {
+        if devices <= i {
             break 'search Finding::Nothing;
         }
         let mut o = 1;
         while o <= last {
-            let w = live(known, q, c, o);
-            let mut k = words::next(w, FIRST_VALUE);
-            while k <= end {
-                let v = k - FIRST_VALUE;
-                let most = count[v] as usize;
-                let mut j = 1;
-                while j <= most {
-                    let n = entries[ENTRY_BYTES * (ENTRY_ROOM * v + j)] as usize;
-                    if !words::has(fine[n], c - 1) {
-                        break 'search Finding::Found(c, o, v, j);
-                    }
-                    j += 1;
+            let most = listed(count, known, i, o, v);
+            let mut j = 1;
+            while j <= most {
+                let n = entries[ENTRY_BYTES * (ENTRY_ROOM * v + j)] as usize;
+                if !words::has(fine[n], i) {
+                    break 'search Finding::Found(i + 1, o, v, j);
                 }
-                k = words::next(w, k + 1);
+                j += 1;
             }
             o += 1;
         }
-        c += 1;
+        i = words::next(d, i + 1);
     }
 }

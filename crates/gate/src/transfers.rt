@@ -1,17 +1,17 @@
 // Question 18: each transfer of a device's write or copy is described now.
 ghost use mathlib.Core.Path.{_≡_};
-ghost use Prim.Native.Nat.{_≤_};
+ghost use Prim.Native.Nat.{ℕ, _≤_};
 ghost use lib.ListN.{length};
 ghost use Rattle.model.specs.State.{areaLength, view};
 ghost use Rattle.model.specs.Operation.{mostItems};
 ghost use Rattle.model.specs.Questions.{q18};
 ghost use Rattle.closure.specs.Scene.{Scene, ValuesOk};
-ghost use Rattle.closure.specs.Search.{Today};
+ghost use Rattle.closure.specs.Today.{Today};
 ghost use Rattle.questions.specs.Items.{upTo};
 ghost use Rattle.gate.specs.Ready.{Ready, Complete};
 ghost use Rattle.gate.specs.Asking.{stores, byDevice, todayOf, pairDescribed, transferOf, itemDescribed};
 use closure::described::is_described;
-use closure::described::today;
+use closure::today::today;
 use model::Actor;
 use model::Config;
 use model::Counts;
@@ -56,21 +56,20 @@ fn pair_described<'a>(
     entries: &'a [u8; ENTRY_SLOTS],
     area: &[u8],
     room: usize,
-    done: &[u64; VALUE_SLOTS],
-    device: usize,
+    values: u64,
     source: usize,
     destination: usize,
 ) -> bool
     requires { ⌜ ValuesOk counts (now count) (now entries) ⌝ }
     requires { ⌜ length (now area) ≡ areaLength room ⌝ }
     ensures { λ r.
-        ⌜ ((m : Scene)
+        ⌜ ((m : Scene) (c : ℕ)
         → Today (todayOf m counts (now (kind .entry)) (now (count .entry)) (now (entries .entry))
-        (view room (now (area .entry)))) (now (done .entry))
+        (view room (now (area .entry)))) c values
         → r ≡ pairDescribed (todayOf m counts (now (kind .entry)) (now (count .entry)) (now (entries .entry))
-        (view room (now (area .entry))) .config) (view room (now (area .entry))) device source destination) ⌝ }
+        (view room (now (area .entry))) .config) (view room (now (area .entry))) c source destination) ⌝ }
 {
-    if !is_described(counts, kind, count, entries, done, device, source, false, 0) {
+    if !is_described(counts, kind, count, entries, values, source, false, 0) {
         return false;
     }
     if destination == 0 {
@@ -82,8 +81,7 @@ fn pair_described<'a>(
         kind,
         count,
         entries,
-        done,
-        device,
+        values,
         destination,
         true,
         v as usize,
@@ -98,8 +96,7 @@ fn item_described<'a>(
     entries: &'a [u8; ENTRY_SLOTS],
     area: &[u8],
     room: usize,
-    done: &[u64; VALUE_SLOTS],
-    device: usize,
+    values: u64,
     f: Family,
     o: usize,
     v: usize,
@@ -107,26 +104,15 @@ fn item_described<'a>(
     requires { ⌜ ValuesOk counts (now count) (now entries) ⌝ }
     requires { ⌜ length (now area) ≡ areaLength room ⌝ }
     ensures { λ r.
-        ⌜ ((m : Scene)
+        ⌜ ((m : Scene) (c : ℕ)
         → Today (todayOf m counts (now (kind .entry)) (now (count .entry)) (now (entries .entry))
-        (view room (now (area .entry)))) (now (done .entry))
+        (view room (now (area .entry)))) c values
         → r ≡ transferOf (todayOf m counts (now (kind .entry)) (now (count .entry)) (now (entries .entry))
-        (view room (now (area .entry))) .config) (view room (now (area .entry))) device f o v) ⌝ }
+        (view room (now (area .entry))) .config) (view room (now (area .entry))) c f o v) ⌝ }
 {
     match f {
-        Family::Write => { is_described(counts, kind, count, entries, done, device, o, true, v) }
-        Family::Copy => pair_described(
-            counts,
-            kind,
-            count,
-            entries,
-            area,
-            room,
-            done,
-            device,
-            o,
-            v,
-        ),
+        Family::Write => is_described(counts, kind, count, entries, values, o, true, v),
+        Family::Copy => pair_described(counts, kind, count, entries, area, room, values, o, v),
         Family::Create => true,
         Family::Destroy => true,
         Family::Activate => true,
@@ -143,7 +129,7 @@ fn items_described(config: Config, area: &[u8], room: usize, op: Operation, f: F
     let counts = config.counts;
     let t = config.objects;
     let w = config.values;
-    let done = today(
+    let values = today(
         counts,
         &t.kind,
         &t.class,
@@ -152,8 +138,8 @@ fn items_described(config: Config, area: &[u8], room: usize, op: Operation, f: F
         &w.entries,
         area,
         room,
+        op.subject,
     );
-    let device = op.subject;
     let n = op.count;
     let mut i = 0;
     while i < n {
@@ -166,8 +152,7 @@ fn items_described(config: Config, area: &[u8], room: usize, op: Operation, f: F
             &w.entries,
             area,
             room,
-            &done,
-            device,
+            values,
             f,
             o,
             v,

@@ -1,103 +1,57 @@
--- `closure::answer::answer` meets its contract: what is found early is right, and what is found or not at the end is
--- exact. Assumes nothing.
-use lib.ListN.{replicate}
+-- `closure::answer::answer` meets its contract: nothing is strange when all is grown, or what is found is. Assumes
+-- nothing.
 use mathlib.Core.Bool.{true}
-use mathlib.Core.Path.{refl, sym, _∙_}
+use mathlib.Core.Path.{refl}
+use native.Mathlib.Omega.{arith}
 use denote.Ref.{now}
-use borrow.Author.Needs.{needs}
 use Rattle.model.specs.declared.Devices.{Devices}
 use Rattle.model.specs.State.{view}
-use Rattle.closure.specs.Scene.{Scene, sceneOf, objectSlots, valueSlots}
-use Rattle.closure.specs.Words.{Before}
-use Rattle.closure.proofs.Starting.{before-of}
-use Rattle.closure.proofs.Growing.{some-scene}
-use Rattle.closure.proofs.Answering.{answers-early, answers-late}
+use Rattle.closure.specs.Scene.{Scene, sceneOf, valueSlots}
+use Rattle.closure.proofs.Digits.{some-bit}
+use Rattle.closure.proofs.Starting.{going-start}
+use Rattle.closure.proofs.Answering.{answers-none, answers-find}
+use borrow.Author.Needs.{needs}
 use Rattle.closure.proofs.answer.answer.Statement.{statement}
 use Rattle.closure.proofs.answer.answer.Tie as tie
 
-abbrev scene : tie.After-look → Devices → Scene
+abbrev scene : tie.Start → Devices → Scene
 scene p d =
-    let a = p .before .before .before .before .before .before .before .before .before .before .before .before .args in
+    let a = p .args in
     sceneOf d (a .counts) (now (a .kind)) (now (a .class)) (now (a .owner)) (now (a .count)) (now (a .entries)) true
     (view (a .room) (now (a .area)))
 
--- before the first sweep
-begun : (p : tie.After-look) (d : Devices)
-    → Before (scene p d) (p .before .before .before .before .before .before .before .before .before .begin .result)
-    (replicate valueSlots 0) (replicate objectSlots 0)
-begun p d =
-    before-of (scene p d) _ valueSlots objectSlots
-    (p .before .before .before .before .before .before .before .before .before .begin .ensures .1 (scene p d))
-
-of-values-requires : tie.Need-of-values-requires
-of-values-requires c κs = search needs
-
 begin-requires : tie.Need-begin-requires
-begin-requires c κs = search needs
-
-settle-until-requires : tie.Need-settle-until-requires
-settle-until-requires c κs =
-    let a = c .before .before .before .before .before .before .before in
-    (a .pre .0, (c .before .before .before .before .begin .ensures .0, (refl, refl)))
-
-look-requires : tie.Need-look-requires
-look-requires c κs = search needs
-
-is-found-requires : tie.Need-is-found-requires
-is-found-requires c κs = search needs
-
-returns : tie.Need-returns
-returns c =
-    let p = c .before .before in
-    let a = p .before .before .before .before .before .before .before .before .before .before .before .before in
-    let w = p .before .before .before .before .settle-until .ensures in
-    λ d bad f. answers-early (scene p d) _ (now (a .args .fine)) bad (a .pre .0) f _ (p .look .result)
-    (w (scene p d) .kept (begun p d) .begun .sound) (p .look .ensures)
-    (sym (c .before .is-found .ensures) ∙ c .if1 .taken)
+begin-requires c κs =
+    let a = c .before .before .before in
+    (a .pre .1 .0, (a .pre .1 .1, (refl, refl)))
 
 settle-requires : tie.Need-settle-requires
 settle-requires c κs =
-    let p = c .before .before .before .before .before .before in
-    let a = p .before .before .before .before .before .before .before .before .before .before .before .before in
-    let g = p .before .before .before .before .before .before .before .before .before .begin .ensures .0 in
-    let e = p .before .before .before .before .settle-until .ensures some-scene in
-    (a .pre .0, (e .known-long ∙ g, (e .done-long, e .seen-long)))
+    let a = c .before .before .before .before .before .before .before in
+    let b = c .before .before .before .begin .ensures in
+    (a .pre .0, (b .0, (b .1 .0, refl)))
 
-look-requires-2 : tie.Need-look-requires-2
-look-requires-2 c κs =
-    let p = c .before .before .before .before .before .before .before .before .before .before in
-    let a = p .before .before .before .before .before .before .before .before .before .before .before .before in
-    let o = p .before .before .before .before .before .before .before .before .before .before .of-values in
-    (a .pre .0, o .ensures)
+returns : tie.Need-returns
+returns c =
+    let a = c .before .before .before .before .before .before .before .before .before .before in
+    let b = c .before .before .before .before .before .before .begin .ensures in
+    λ d bad f. answers-none (scene a d) _ (now (a .args .fine)) bad (a .pre .0) f
+    (c .before .before .settle .ensures .0 (scene a d) (going-start (scene a d) (now (a .args .fine)) _ _ _ valueSlots
+    (b .1 .1 (scene a d))) (c .if1 .taken))
+
+find-requires : tie.Need-find-requires
+find-requires c κs = search needs
 
 returns-2 : tie.Need-returns-2
 returns-2 c =
-    let p = c .before .before .before .before .before .before .before .before .before .before .before in
-    let a = p .before .before .before .before .before .before .before .before .before .before .before .before in
-    let w = p .before .before .before .before .settle-until .ensures in
-    λ d bad f. answers-late (scene p d) _ (now (a .args .fine)) bad (a .pre .0) f _ (c .look2 .result)
-    (c .before .before .before .before .settle .ensures (scene p d) (w (scene p d) .kept (begun p d)))
-    (c .look2 .ensures)
-
-returns-3 : tie.Need-returns-3
-returns-3 c =
-    let p = c .before .before .before in
-    let a = p .before .before .before .before .before .before .before .before .before .before .before .before in
-    let w = p .before .before .before .before .settle-until .ensures in
-    λ d bad f. answers-late (scene p d) _ (now (a .args .fine)) bad (a .pre .0) f _ (p .look .result)
-    (w (scene p d) .settled (c .if2 .left) (begun p d)) (p .look .ensures)
+    let a = c .before .before .before .before .before .before .before .before .before .before .before .before in
+    let b = c .before .before .before .before .before .before .before .before .begin .ensures in
+    let s = c .before .before .before .before .settle in
+    λ d bad f. answers-find (scene a d) _ (now (a .args .fine)) bad (a .pre .0) f (s .result .strange)
+    (s .result .value) (c .find .result) (c .find .ensures)
+    (s .ensures .1 .1 (scene a d) (going-start (scene a d) (now (a .args .fine)) _ _ _ valueSlots
+    (b .1 .1 (scene a d))))
+    (some-bit 64 (s .result .strange) (c .before .before .if1 .left) (omega arith))
 
 pub answer-spec : {M : Type 1} → statement M
-answer-spec =
-    tie.close
-    (tie.spec
-    of-values-requires
-    begin-requires
-    settle-until-requires
-    look-requires
-    is-found-requires
-    returns
-    settle-requires
-    look-requires-2
-    returns-2
-    returns-3)
+answer-spec = tie.close (tie.spec begin-requires settle-requires returns find-requires returns-2)

@@ -2,9 +2,9 @@
 -- Assumes nothing.
 use native.Mathlib.Omega.{arith}
 use denote.Ref.{now}
-use borrow.Author.Needs.{needs}
 use Rattle.model.specs.State.{view}
 use Rattle.closure.proofs.Starting.{own-low, own-high, own-word}
+use borrow.Author.Needs.{needs}
 use Rattle.closure.proofs.begin.owner_of.Statement.{statement}
 use Rattle.closure.proofs.begin.owner_of.Tie as tie
 

@@ -26,7 +26,7 @@ is-reading-requires : tie.Need-is-reading-requires
 is-reading-requires c κs = search needs
 
 returns : tie.Need-returns
-unfolding Rattle.closure.specs.Search.gives
+unfolding Rattle.closure.specs.Today.gives
 returns c = rw (c .before .is-writing .ensures, c .is-reading .ensures, c .before .before .wide .ensures .0)
 
 pub is-giving-spec : {M : Type 1} → statement M

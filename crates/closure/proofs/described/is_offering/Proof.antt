@@ -1,57 +1,42 @@
 -- `closure::described::is_offering` meets its contract: no entry below j describes the transfer. Assumes nothing.
+use borrow.Author.Needs.{needs}
 use denote.Ref.{now}
-use borrow.Author.Tests.{eqb-true, eqb-false, not-true, not-false}
 use borrow.Author.Count.{below-more}
 use mathlib.Core.Bool.{true, false≢true, true≢false}
 use mathlib.Core.Path.{_≡_, sym, _∙_}
 use native.Mathlib.Omega.{arith}
 use Prim.Native.Nat.{ℕ, _≤_, _<_, _-_, _+_}
-use borrow.Author.Needs.{needs}
 use Rattle.model.specs.Config.{entryPlace, entryAt}
 use Rattle.closure.specs.Scene.{EntryOk}
-use Rattle.closure.specs.Search.{describes}
+use Rattle.closure.specs.Today.{describes}
 use Rattle.closure.proofs.Ranges.{entry-ok}
 use Rattle.closure.proofs.described.is_offering.Statement.{statement}
 use Rattle.closure.proofs.described.is_offering.Tie as tie
 
 abbrev Inv-loop : tie.InvT-loop
-Inv-loop kind count entries x device v object write w most j₀ j =
+Inv-loop kind count entries v object write w most j₀ j =
     (1 ≤ j) × (j ≤ most + 1)
     × ((i : ℕ) → i < j → 1 ≤ i → describes kind object write w (entryAt entries (entryPlace v i)) ≡ true → ⊥)
 
 abbrev μ-loop : tie.MeasureT-loop
-μ-loop kind count entries x device v object write w most j₀ j = most + 1 - j
+μ-loop kind count entries v object write w most j₀ j = most + 1 - j
 
 -- in the loop entry j of the value is there
 at-entry : (c : tie.In-loop Inv-loop μ-loop)
-    → EntryOk (now (c .before .before .before .before .before .args .entries))
-    (entryPlace (c .before .before .before .before .before .args .v) (c .before .loop .j))
+    → EntryOk (now (c .before .before .before .args .entries))
+    (entryPlace (c .before .before .before .args .v) (c .before .loop .j))
 at-entry c =
-    let a = c .before .before .before .before .before in
-    entry-ok (a .pre .0) (a .args .v) (c .before .loop .j) (a .pre .1 .1)
+    let a = c .before .before .before in
+    entry-ok (a .pre .0) (a .args .v) (c .before .loop .j) (a .pre .1)
     (record { low = c .before .loop .inv .0; high = omega arith })
 
-sub-has : tie.Need-sub-has Inv-loop μ-loop
-sub-has c = search needs
-
-has-requires : tie.Need-has-requires Inv-loop μ-loop
-has-requires c κs = search needs
-
-returns : tie.Need-returns Inv-loop μ-loop
-returns c =
-    record {
-      some = λ e. absurd (false≢true e);
-      none = λ e h. absurd
-          (eqb-false _ 1 (sym (c .before .has .ensures) ∙ not-true _ (c .if1 .taken)) h);
-    }
-
 element-copy-out-most : tie.Need-element-copy-out-most Inv-loop μ-loop
-element-copy-out-most c = omega arith
+element-copy-out-most c = search needs
 
 cast-most : tie.Need-cast-most Inv-loop μ-loop
 cast-most c =
-    let a = c .before .before .before in
-    omega (arith, a .pre .0 .few-entries (a .args .v) (a .pre .1 .1))
+    let a = c .before in
+    omega (arith, a .pre .0 .few-entries (a .args .v) (a .pre .1))
 
 loop-holds : tie.Need-loop-holds Inv-loop μ-loop
 loop-holds c = (omega arith, omega arith, λ i h l. absurd (omega arith))
@@ -68,18 +53,14 @@ mul-at-2 c = omega (arith, at-entry c .place)
 is-describing-requires : tie.Need-is-describing-requires Inv-loop μ-loop
 is-describing-requires c κs = at-entry c
 
-returns-2 : tie.Need-returns-2 Inv-loop μ-loop
-returns-2 c =
+returns : tie.Need-returns Inv-loop μ-loop
+returns c =
     let b = c .before .before .before .loop in
     record {
       some = λ e. (
-        eqb-true _ 1
-            (sym (c .before .before .before .before .before .before .has .ensures)
-            ∙ not-false _ (c .before .before .before .before .before .if1 .left)),
         b .j,
         record { low = b .inv .0; high = omega arith },
-        sym (c .before .is-describing .ensures)
-            ∙ c .if2 .taken,
+        sym (c .before .is-describing .ensures) ∙ c .if1 .taken,
       );
       none = λ e. absurd (true≢false e);
     }
@@ -95,13 +76,13 @@ loop-again c =
     let b = c .before .before .before .loop in (
       omega arith,
       omega arith,
-      below-more _ _ (b .inv .2) (λ l e. false≢true (sym (c .if2 .left) ∙ c .before .is-describing .ensures ∙ e)),
+      below-more _ _ (b .inv .2) (λ l e. false≢true (sym (c .if1 .left) ∙ c .before .is-describing .ensures ∙ e)),
     )
 
-returns-3 : tie.Need-returns-3 Inv-loop μ-loop
-returns-3 c =
+returns-2 : tie.Need-returns-2 Inv-loop μ-loop
+returns-2 c =
     let b = c .before .loop in
-    record { some = λ e. absurd (false≢true e); none = λ e h j i. b .inv .2 j (omega (arith, i .high)) (i .low) }
+    record { some = λ e. absurd (false≢true e); none = λ e j i. b .inv .2 j (omega (arith, i .high)) (i .low) }
 
 pub is-offering-spec : {M : Type 1} → statement M
 is-offering-spec =
@@ -109,9 +90,6 @@ is-offering-spec =
     (tie.spec
     Inv-loop
     μ-loop
-    sub-has
-    has-requires
-    returns
     element-copy-out-most
     cast-most
     loop-holds
@@ -119,8 +97,8 @@ is-offering-spec =
     add-at
     mul-at-2
     is-describing-requires
-    returns-2
+    returns
     add-j
     loop-less
     loop-again
-    returns-3)
+    returns-2)

@@ -33,25 +33,25 @@ enum-told-6 c = search needs
 
 returns : tie.Need-returns
 returns c =
-    λ m x. let a = c .before .before .before .before in
+    λ m k x. let a = c .before .before .before .before in
     let s : Scene = todayOf m (a .args .counts) (a .args .kind .now) (a .args .count .now) (a .args .entries .now)
     (view (a .args .room) (a .args .area .now)) in
-    Asking.item-write _ _ _ _ _ (c .before .enum-told .given .1) (c .is-described .ensures s x)
+    Asking.item-write _ _ _ _ _ (c .before .enum-told .given .1) (c .is-described .ensures s k x)
 
 returns-2 : tie.Need-returns-2
-returns-2 c = λ m x. Asking.item-copy _ _ _ _ _ (c .before .enum-told2 .given .1) (c .pair-described .ensures m x)
+returns-2 c = λ m k x. Asking.item-copy _ _ _ _ _ (c .before .enum-told2 .given .1) (c .pair-described .ensures m k x)
 
 returns-3 : tie.Need-returns-3
-returns-3 c = λ m x. Asking.item-create _ _ _ _ _ (c .enum-told3 .given .1)
+returns-3 c = λ m k x. Asking.item-create _ _ _ _ _ (c .enum-told3 .given .1)
 
 returns-4 : tie.Need-returns-4
-returns-4 c = λ m x. Asking.item-destroy _ _ _ _ _ (c .enum-told4 .given .1)
+returns-4 c = λ m k x. Asking.item-destroy _ _ _ _ _ (c .enum-told4 .given .1)
 
 returns-5 : tie.Need-returns-5
-returns-5 c = λ m x. Asking.item-activate _ _ _ _ _ (c .enum-told5 .given .1)
+returns-5 c = λ m k x. Asking.item-activate _ _ _ _ _ (c .enum-told5 .given .1)
 
 returns-6 : tie.Need-returns-6
-returns-6 c = λ m x. Asking.item-deactivate _ _ _ _ _ (c .enum-told6 .given .1)
+returns-6 c = λ m k x. Asking.item-deactivate _ _ _ _ _ (c .enum-told6 .given .1)
 
 pub item-described-spec : {M : Type 1} → statement M
 item-described-spec =

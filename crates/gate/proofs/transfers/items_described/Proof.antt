@@ -18,14 +18,14 @@ use Rattle.gate.proofs.transfers.items_described.Statement.{statement}
 use Rattle.gate.proofs.transfers.items_described.Tie as tie
 
 abbrev Inv-loop : tie.InvT-loop
-Inv-loop area room f op counts t w done device n i₀ i =
+Inv-loop area room f op counts t w values n i₀ i =
     (i ≤ n) × (n ≤ mostItems)
     × ((d : Devices) → upTo i
     (itemDescribed (configOf d counts (t .kind) (t .class) (t .owner) (w .count) (w .entries)) (view room area) op f)
     ≡ true)
 
 abbrev μ-loop : tie.MeasureT-loop
-μ-loop area room f op counts t w done device n i₀ i = n - i
+μ-loop area room f op counts t w values n i₀ i = n - i
 
 today-requires : tie.Need-today-requires Inv-loop μ-loop
 today-requires c κs = search needs
@@ -44,19 +44,19 @@ number-of-requires-2 c κs = search needs
 item-described-requires : tie.Need-item-described-requires Inv-loop μ-loop
 item-described-requires c κs =
     let c₁ = c .before .before .before .before .before .before .before .before .before .before .before .before .before
-    .before .before .before .before .before .before .before .before .before .before .before .before .before .before
+    .before .before .before .before .before .before .before .before .before .before .before .before .before
     .before in let s = c₁ .pre .0 .searchable in (s .values, s .held .long)
 
 returns : tie.Need-returns Inv-loop μ-loop
 returns c =
-    let c₁ = c .before .before .before .before .before .before .before .before in
+    let c₁ = c .before .before .before .before .before .before .before in
     let c₂ = c₁ .before .before .before .before in let c₃ = c₂ .before .before .before .before in
     let a = c₃ .before .before .before .before .before .before .before .before .before .before .before .before .before
     .before in let config = a .args .config in
     let m : Scene = record { config = config; storing = false; state = view (a .args .room) (now (a .args .area)) } in
     Laws.up-stop _ _ _ (c₃ .loop-test .taken)
     (Asking.item-at _ _ _ _ _
-    (c .before .item-described .ensures m (c₃ .before .before .today .ensures (config .devices)))
+    (c .before .item-described .ensures m _ (c₃ .before .before .today .ensures (config .devices)))
     (c₂ .number-of .ensures) (c₁ .number-of2 .ensures)) (c .if1 .taken)
 
 add-i : tie.Need-add-i Inv-loop μ-loop
@@ -67,7 +67,7 @@ loop-less c = search needs
 
 loop-again : tie.Need-loop-again Inv-loop μ-loop
 loop-again c =
-    let c₁ = c .before .before .before .before .before .before .before .before in
+    let c₁ = c .before .before .before .before .before .before .before in
     let c₂ = c₁ .before .before .before .before in let c₃ = c₂ .before .before .before .before .before in
     let c₄ = c₃ .before .before .before .before .before .before .before .before .before .before .before .before
     .before in (
@@ -87,7 +87,7 @@ loop-again c =
                 (now (a .args .area));
           } in
           Laws.up-go _ _ (c₃ .loop .inv .2 d)
-          (Asking.item-at _ _ _ _ _ (c .before .item-described .ensures m (c₃ .before .today .ensures d))
+          (Asking.item-at _ _ _ _ _ (c .before .item-described .ensures m _ (c₃ .before .today .ensures d))
           (c₂ .number-of .ensures) (c₁ .number-of2 .ensures)) (c .if1 .left),
     )
 

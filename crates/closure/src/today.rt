@@ -1,0 +1,178 @@
+// Question 18: the values that one device reads with today's values. Each active descriptor has the one value that it
+// holds, and write entries do not count, so a word of values is all that there is to find.
+use crate::area;
+use crate::rules;
+use crate::rules::ENTRY_ROOM;
+use crate::words;
+ghost use mathlib.Core.Bool.{false};
+ghost use Prim.Native.Nat.{_≤_};
+ghost use lib.ListN.{getD};
+ghost use Rattle.model.specs.Config.{mostDevices, entryAt};
+ghost use Rattle.model.specs.State.{view};
+ghost use Rattle.model.specs.declared.Devices.{Devices};
+ghost use Rattle.closure.specs.Scene.{In, sceneOf, ValuesOk, OwnersOk, AreaOk, EntryOk};
+ghost use Rattle.closure.specs.Today.{HeldWord, OwnedWord, OwnedWords, OpenedWord, OpenedWords, Today};
+use model::Counts;
+use model::ENTRY_BYTES;
+use model::ENTRY_SLOTS;
+use model::HARDCODED_KIND;
+use model::OBJECT_SLOTS;
+use model::VALUE_SLOTS;
+
+// The value that object o holds if it is an active descriptor, as a word.
+fn held_word(counts: Counts, kind: &[u8; OBJECT_SLOTS], area: &[u8], room: usize, o: usize) -> u64
+    requires { ⌜ AreaOk counts (now kind) (now area) room ⌝ }
+    requires { ⌜ In (counts .objects) o ⌝ }
+    ensures { λ x. ⌜ HeldWord (now (kind .entry)) (view room (now (area .entry))) o x ⌝ }
+{
+    if !rules::is_live(kind, area, room, o) {
+        return 0;
+    }
+    let w = rules::wide(area::held_by(area, room, o));
+    words::power(w)
+}
+
+// The value of object o, if it is the active device's hardcoded descriptor and active itself.
+fn owned_word<'a>(
+    counts: Counts,
+    kind: &'a [u8; OBJECT_SLOTS],
+    class: &'a [u8; OBJECT_SLOTS],
+    owner: &'a [u8; OBJECT_SLOTS],
+    area: &[u8],
+    room: usize,
+    device: usize,
+    o: usize,
+) -> u64
+    requires { ⌜ AreaOk counts (now kind) (now area) room ⌝ }
+    requires { ⌜ In mostDevices device ⌝ }
+    requires { ⌜ In (counts .objects) o ⌝ }
+    ensures { λ x.
+        ⌜ OwnedWord (now (kind .entry)) (now (class .entry)) (now (owner .entry)) (view room (now (area .entry))) device
+        o x ⌝ }
+{
+    if kind[o] != HARDCODED_KIND {
+        return 0;
+    }
+    if !rules::is_owned(kind, class, owner, area, room, device, o) {
+        return 0;
+    }
+    held_word(counts, kind, area, room, o)
+}
+
+// The values of the device's hardcoded descriptor.
+fn owned_values<'a>(
+    counts: Counts,
+    kind: &'a [u8; OBJECT_SLOTS],
+    class: &'a [u8; OBJECT_SLOTS],
+    owner: &'a [u8; OBJECT_SLOTS],
+    area: &[u8],
+    room: usize,
+    device: usize,
+) -> u64
+    requires { ⌜ AreaOk counts (now kind) (now area) room ⌝ }
+    requires { ⌜ In mostDevices device ⌝ }
+    ensures { λ x.
+        ⌜ OwnedWords (counts .objects) (now (kind .entry)) (now (class .entry)) (now (owner .entry))
+        (view room (now (area .entry))) device x ⌝ }
+{
+    let last = counts.objects as usize;
+    let mut x = 0;
+    let mut o = 1;
+    while o <= last {
+        x = x | owned_word(counts, kind, class, owner, area, room, device, o);
+        o += 1;
+    }
+    x
+}
+
+// The value of the descriptor that the entry at a place reads, if it is active.
+fn opened_word<'a>(
+    counts: Counts,
+    kind: &'a [u8; OBJECT_SLOTS],
+    entries: &'a [u8; ENTRY_SLOTS],
+    area: &[u8],
+    room: usize,
+    at: usize,
+) -> u64
+    requires { ⌜ AreaOk counts (now kind) (now area) room ⌝ }
+    requires { ⌜ EntryOk (now entries) at ⌝ }
+    requires { ⌜ In (counts .objects) (getD (now entries) at 0) ⌝ }
+    ensures { λ x.
+        ⌜ OpenedWord (now (kind .entry)) (view room (now (area .entry))) (entryAt (now (entries .entry)) at) x ⌝ }
+{
+    if !rules::is_reading(entries[at + 1]) {
+        return 0;
+    }
+    let o = entries[at] as usize;
+    held_word(counts, kind, area, room, o)
+}
+
+// The values of the descriptors that the entries of value v read.
+fn opened_values<'a>(
+    counts: Counts,
+    kind: &'a [u8; OBJECT_SLOTS],
+    count: &'a [u8; VALUE_SLOTS],
+    entries: &'a [u8; ENTRY_SLOTS],
+    area: &[u8],
+    room: usize,
+    v: usize,
+) -> u64
+    requires { ⌜ ValuesOk counts (now count) (now entries) ⌝ }
+    requires { ⌜ AreaOk counts (now kind) (now area) room ⌝ }
+    requires { ⌜ v ≤ counts .values ⌝ }
+    ensures { λ x.
+        ⌜ OpenedWords (now (kind .entry)) (now (count .entry)) (now (entries .entry)) (view room (now (area .entry))) v
+        x ⌝ }
+{
+    let end = count[v] as usize;
+    let mut x = 0;
+    let mut j = 1;
+    while j <= end {
+        let at = ENTRY_BYTES * (ENTRY_ROOM * v + j);
+        x = x | opened_word(counts, kind, entries, area, room, at);
+        j += 1;
+    }
+    x
+}
+
+// The values that the device reads with today's values.
+pub fn today<'a>(
+    counts: Counts,
+    kind: &'a [u8; OBJECT_SLOTS],
+    class: &'a [u8; OBJECT_SLOTS],
+    owner: &'a [u8; OBJECT_SLOTS],
+    count: &'a [u8; VALUE_SLOTS],
+    entries: &'a [u8; ENTRY_SLOTS],
+    area: &[u8],
+    room: usize,
+    device: usize,
+) -> u64
+    requires { ⌜ ValuesOk counts (now count) (now entries) ⌝ }
+    requires { ⌜ OwnersOk counts (now class) (now owner) ⌝ }
+    requires { ⌜ AreaOk counts (now kind) (now area) room ⌝ }
+    ensures { λ x.
+        ⌜ ((d : Devices) → Today (sceneOf d counts (now (kind .entry)) (now (class .entry)) (now (owner .entry))
+        (now (count .entry)) (now (entries .entry)) false (view room (now (area .entry)))) device x) ⌝ }
+{
+    if device < 1 {
+        return 0;
+    }
+    if (counts.devices as usize) < device {
+        return 0;
+    }
+    let last = counts.values as usize;
+    let mut seen = owned_values(counts, kind, class, owner, area, room, device);
+    let mut todo = seen;
+    loop {
+        let v = words::next(todo, 0);
+        if last < v {
+            return seen;
+        }
+        let new = words::without(
+            opened_values(counts, kind, count, entries, area, room, v),
+            seen,
+        );
+        seen = seen | new;
+        todo = words::clear(todo, v) | new;
+    }
+}
