@@ -4,6 +4,7 @@ pub mod Entries
 pub mod Turns
 pub mod Groups
 pub mod Accepted
+pub mod FileQuestions
 pub mod Hardcoded
 pub mod ClosureLaws
 pub mod Confinement
@@ -27,6 +28,8 @@ pub mod Reached
 pub mod Demand2
 pub mod OperationRange
 pub mod Answers
+pub mod Demand2Calls
+pub mod FreshAnswers
 pub mod OfficeLaws
 pub mod AnswerRange
 pub mod OfficeLength

@@ -2,12 +2,14 @@ pub mod Base
 pub mod Number
 pub mod Config
 pub mod ConfigFile
+pub mod FileQuestions
 pub mod State
 pub mod Closure
 pub mod Operation
 pub mod Effect
 pub mod Questions
 pub mod Gate
+pub mod Demand2
 pub mod Trace
 pub mod Separation
 pub mod Office

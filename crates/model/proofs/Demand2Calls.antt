@@ -1,0 +1,241 @@
+-- Demand 2 on whole operation calls: accepted exactly if each of the twenty questions is a yes; with 1 to 18 a yes,
+-- refused by 19 or 20 exactly where the rules of the closure give an entry for it.
+use Prim.Native.Nat.{ℕ, zero, suc}
+use mathlib.Core.Path.{_≡_, refl, sym, ap, _∙_, subst}
+use mathlib.Core.Logic.{_↔_, _⊎_, inl, inr}
+use mathlib.Core.List.{List}
+use mathlib.Core.Bool.{true, false≢true}
+use native.Mathlib.Omega.{arith}
+use lib.ListN.{length}
+use lib.Dec.{leb, eqb}
+use borrow.Author.Tests.{eqb-true, eq-eqb, le-leb, leb-true}
+use Rattle.model.specs.ConfigFile.{load}
+use Rattle.model.specs.State.{State, records, areaLength, view, wellFormed}
+use Rattle.model.specs.Closure.{active}
+use Rattle.model.specs.Operation.{familyOf, actorOf, readOperation}
+use Rattle.model.specs.Effect.{answerBytes, apply, concerned}
+use Rattle.model.specs.Questions.{itself, judge}
+use Rattle.model.specs.Gate.{orElse, verdict, outcome, applied, judged, operate}
+use Rattle.model.specs.Demand2 as D
+use Rattle.model.specs.Demand2.{
+  configIn,
+  operationIn,
+  familyIn,
+  actorIn,
+  stateIn,
+  AllYes,
+  Acceptance,
+  ByDriver,
+  SomeCrosses,
+  Refusal19,
+  Leaving,
+  SomeNames,
+  Refusal20,
+  Demand2,
+}
+use Rattle.model.specs.declared.Family.{Family}
+use Rattle.model.specs.declared.Family.the-variants.{Write, Copy, Deactivate}
+use Rattle.model.specs.declared.Actor.{Actor}
+use Rattle.model.specs.declared.Actor.the-variants.{Driver, Device, External}
+use Rattle.model.specs.declared.Config.{Config}
+use Rattle.model.specs.declared.Operation.{Operation}
+use Rattle.model.proofs.ClosureLaws.{reads-active}
+use Rattle.model.proofs.FileQuestions.{file-yes}
+use Rattle.model.proofs.Facts.{Passed}
+use Rattle.model.proofs.Demand2.{
+  ask-true,
+  Upto18,
+  Crossing,
+  Naming,
+  write-19,
+  copy-19,
+  deactivate-20,
+}
+use Rattle.model.proofs.Answers as answers
+use Rattle.model.proofs.Answers.{answer-zero}
+
+module _ (file area bytes answer : List ℕ) where
+  abbrev op : Operation
+  op = operationIn bytes
+
+  abbrev config : Config
+  config = configIn file
+
+  abbrev state : State
+  state = stateIn file area
+
+  -- 0 exactly if each is a yes
+  accepted-yes : answers.AllYes file area bytes answer → AllYes file area bytes answer
+  accepted-yes y =
+      let p = y .p11-20 in
+      record {
+        y1-18 = record {
+          y1-6 = file-yes file .0 (y .p1-6);
+          y7 = eqb-true (length area) (areaLength (records config)) (y .p7);
+          y8 = leb-true answerBytes (length answer) (y .p8);
+          y9 = y .p9;
+          y10 = y .p10;
+          y11 = p .p11;
+          y12 = p .p12;
+          y13 = p .p13;
+          y14 = p .p14;
+          y15 = p .p15;
+          y16 = p .p16;
+          y17 = p .p17;
+          y18 = p .p18;
+        };
+        y19 = p .p19;
+        y20 = p .p20;
+      }
+
+  yes-accepted : AllYes file area bytes answer → answers.AllYes file area bytes answer
+  yes-accepted y =
+      let u = y .y1-18 in
+      record {
+        p1-6 = file-yes file .1 (u .y1-6);
+        p7 = eq-eqb (length area) (areaLength (records config)) (u .y7);
+        p8 = le-leb answerBytes (length answer) (u .y8);
+        p9 = u .y9;
+        p10 = u .y10;
+        p11-20 = record {
+          p11 = u .y11;
+          p12 = u .y12;
+          p13 = u .y13;
+          p14 = u .y14;
+          p15 = u .y15;
+          p16 = u .y16;
+          p17 = u .y17;
+          p18 = u .y18;
+          p19 = y .y19;
+          p20 = y .y20;
+        };
+      }
+
+  -- with 1 to 10 a yes, a call answers what 11 to 20 answer
+  or-zero : (n rest : ℕ) → n ≡ 0 → orElse n rest ≡ rest
+  or-zero n rest h = rw h
+
+  answered : (n : ℕ) → (outcome n config op area answer) .0 ≡ n
+  answered zero = refl
+  answered (suc n) = refl
+
+  module _ (u : D.Upto18 file area bytes answer) where
+    call-judged : (operate file area bytes answer) .0 ≡ judge config state op (familyIn bytes) (actorIn bytes)
+    unfolding operate
+    call-judged =
+        answered (orElse ((load file) .answer) (verdict config (readOperation bytes) area answer))
+        ∙ (or-zero ((load file) .answer) _ (file-yes file .1 (u .y1-6))
+        ∙ (ask-true 7 (eqb (length area) (areaLength (records config))) _
+        (eq-eqb (length area) (areaLength (records config)) (u .y7))
+        ∙ (ask-true 8 (leb answerBytes (length answer)) _ (le-leb answerBytes (length answer) (u .y8))
+        ∙ (ask-true 9 (wellFormed (records config) config state) _ (u .y9)
+        ∙ or-zero ((readOperation bytes) .0) _ (u .y10)))))
+
+    -- 11 to 18, for the family and actor of a code
+    upto : (f : Family) (a : Actor) → familyIn bytes ≡ f → actorIn bytes ≡ a → Upto18 config state op f a
+    upto f a d e =
+        subst (λ (b : Actor). Upto18 config state op f b) e
+        (subst (λ (g : Family). Upto18 config state op g (actorIn bytes)) d (record {
+          p11 = u .y11;
+          p12 = u .y12;
+          p13 = u .y13;
+          p14 = u .y14;
+          p15 = u .y15;
+          p16 = u .y16;
+          p17 = u .y17;
+          p18 = u .y18;
+        }))
+
+    judged-as : (f : Family) (a : Actor) → familyIn bytes ≡ f → actorIn bytes ≡ a
+        → (operate file area bytes answer) .0 ≡ judge config state op f a
+    judged-as f a d e =
+        call-judged ∙ (ap (λ (g : Family). judge config state op g (actorIn bytes)) d
+        ∙ ap (λ (b : Actor). judge config state op f b) e)
+
+    applied-as : (f : Family) (a : Actor) → familyIn bytes ≡ f → actorIn bytes ≡ a
+        → apply config op f a state ≡ applied config op state
+    applied-as f a d e =
+        sym (ap (λ (g : Family). apply config op g (actorIn bytes) state) d
+        ∙ ap (λ (b : Actor). apply config op f b state) e)
+
+    -- question 19
+    crossed : (b : State) → Crossing config b ↔ SomeCrosses config b
+    crossed b = (
+      (λ q. let (c, o, v, e, r, m, k) = q in (c, o, v, e, reads-active r, r, m, k)),
+      λ q. let (c, o, v, e, a, r, m, k) = q in (c, o, v, e, r, m, k),
+    )
+
+    by-19 : (f : Family) (a : Actor) → familyIn bytes ≡ f → actorIn bytes ≡ a
+        → (judge config state op f a ≡ 19) ↔ Crossing config (apply config op f a state)
+        → ((operate file area bytes answer) .0 ≡ 19) ↔ SomeCrosses config (applied config op state)
+    by-19 f a d e w =
+        let i = applied-as f a d e in
+        let j = judged-as f a d e in (
+          (λ h. subst (SomeCrosses config) i (crossed (apply config op f a state) .0 (w .0 (sym j ∙ h)))),
+          λ q. j ∙ w .1 (crossed (apply config op f a state) .1 (subst (SomeCrosses config) (sym i) q)),
+        )
+
+    driver-19 : ByDriver op
+        → ((operate file area bytes answer) .0 ≡ 19) ↔ SomeCrosses config (applied config op state)
+    driver-19 (inl h) =
+        by-19 Write Driver (ap familyOf h) (ap actorOf h)
+        (write-19 config state op (upto Write Driver (ap familyOf h) (ap actorOf h)))
+    driver-19 (inr h) =
+        by-19 Copy Driver (ap familyOf h) (ap actorOf h)
+        (copy-19 config state op (upto Copy Driver (ap familyOf h) (ap actorOf h)))
+
+    -- question 20: 'another device' is a device other than the one that leaves, which there is in code 11 alone
+    module _ (a : Actor) (code : actorIn bytes ≡ a)
+        (other : (c : ℕ) → (c ≡ itself op a → ⊥) → op .code ≡ 11 → c ≡ op .subject → ⊥)
+        (apart : (c : ℕ) → active state c ≡ true → (op .code ≡ 11 → c ≡ op .subject → ⊥) → c ≡ itself op a → ⊥) where
+      named : Naming config state op a ↔ SomeNames config state op
+      named = (
+        (λ q. let (c, o, v, e, r, m, d, k) = q in (
+          c,
+          o,
+          v,
+          e,
+          reads-active r,
+          other c d,
+          r,
+          m,
+          subst (λ (b : Actor). concerned config op b (e .object) ≡ true) (sym code) k,
+        )),
+        λ q. let (c, o, v, e, l, d, r, m, k) = q in
+            (c, o, v, e, r, m, apart c l d, subst (λ (b : Actor). concerned config op b (e .object) ≡ true) code k),
+      )
+
+      by-20 : familyIn bytes ≡ Deactivate
+          → ((operate file area bytes answer) .0 ≡ 20) ↔ SomeNames config state op
+      by-20 d =
+          let w = deactivate-20 config state op a (upto Deactivate a d code) in
+          let j = judged-as Deactivate a d code in
+          ((λ h. named .0 (w .0 (sym j ∙ h))), λ q. j ∙ w .1 (named .1 q))
+
+    -- number 0 names no active device
+    no-zero : (c : ℕ) → active state c ≡ true → c ≡ 0 → ⊥
+    no-zero c h e = false≢true (subst (λ (n : ℕ). active state n ≡ true) e h)
+
+    leaving-20 : Leaving op → ((operate file area bytes answer) .0 ≡ 20) ↔ SomeNames config state op
+    leaving-20 (inl h) =
+        by-20 Driver (ap actorOf h) (λ c d k. absurd (omega arith)) (λ c l d. no-zero c l) (ap familyOf h)
+    leaving-20 (inr (inl h)) =
+        by-20 Device (ap actorOf h) (λ c d k. d) (λ c l d. d h) (ap familyOf h)
+    leaving-20 (inr (inr h)) =
+        by-20 External (ap actorOf h) (λ c d k. absurd (omega arith)) (λ c l d. no-zero c l) (ap familyOf h)
+
+-- demand 2: the three statements
+pub acceptance : Acceptance
+acceptance file area bytes answer = (
+  (λ h. accepted-yes file area bytes answer (answer-zero file area bytes answer .0 h)),
+  λ y. answer-zero file area bytes answer .1 (yes-accepted file area bytes answer y),
+)
+
+pub refusal-19 : Refusal19
+refusal-19 file area bytes answer u = driver-19 file area bytes answer u
+
+pub refusal-20 : Refusal20
+refusal-20 file area bytes answer u = leaving-20 file area bytes answer u
+
+pub demand-2 : Demand2
+demand-2 = record { accepted = acceptance; refused-19 = refusal-19; refused-20 = refusal-20 }

@@ -1,0 +1,107 @@
+-- Demand 2, said of a whole operation call: for every file, state area, operation and answer area, whatever their length
+-- and content. When it is accepted; and when it is refused for what devices could come to do (document 01: reach).
+use Prim.Native.Nat.{ℕ, _≤_}
+use mathlib.Core.Path.{_≡_}
+use mathlib.Core.Logic.{_↔_, _⊎_}
+use mathlib.Core.List.{List, List·Memᴰ}
+use mathlib.Core.Bool.{true}
+use lib.ListN.{length}
+use Rattle.model.specs.Config.{Entry, entries}
+use Rattle.model.specs.ConfigFile.{load}
+use Rattle.model.specs.FileQuestions.{FileYes}
+use Rattle.model.specs.State.{State, records, areaLength, view, wellFormed}
+use Rattle.model.specs.Closure.{active, Reads, crosses}
+use Rattle.model.specs.Operation.{familyOf, actorOf, readOperation}
+use Rattle.model.specs.Effect.{answerBytes, concerned}
+use Rattle.model.specs.Questions.{q11, q12, q13, q14, q15, q16, q17, q18, q19, q20}
+use Rattle.model.specs.Gate.{applied, operate}
+use Rattle.model.specs.declared.Config.{Config}
+use Rattle.model.specs.declared.Family.{Family}
+use Rattle.model.specs.declared.Actor.{Actor}
+use Rattle.model.specs.declared.Operation.{Operation}
+
+-- what a call speaks of: the configuration of its file, its operation with family and actor, and the state of its area
+abbrev pub configIn : List ℕ → Config
+configIn file = (load file) .config
+
+abbrev pub operationIn : List ℕ → Operation
+operationIn bytes = (readOperation bytes) .1
+
+abbrev pub familyIn : List ℕ → Family
+familyIn bytes = familyOf (operationIn bytes .code)
+
+abbrev pub actorIn : List ℕ → Actor
+actorIn bytes = actorOf (operationIn bytes .code)
+
+abbrev pub stateIn : List ℕ → List ℕ → State
+stateIn file area = view (records (configIn file)) area
+
+-- document 01, 'The questions': the file meets 1 to 6, and each of 7 to 18 is a yes
+pub record Upto18 (file area bytes answer : List ℕ) : Type 0 where
+  pub y1-6 : FileYes file
+  pub y7 : length area ≡ areaLength (records (configIn file))
+  pub y8 : answerBytes ≤ length answer
+  pub y9 : wellFormed (records (configIn file)) (configIn file) (stateIn file area) ≡ true
+  pub y10 : (readOperation bytes) .0 ≡ 0
+  pub y11 : q11 (configIn file) (operationIn bytes) (familyIn bytes) (actorIn bytes) ≡ true
+  pub y12 : q12 (operationIn bytes) (familyIn bytes) ≡ true
+  pub y13 : q13 (configIn file) (operationIn bytes) (familyIn bytes) ≡ true
+  pub y14 : q14 (stateIn file area) (operationIn bytes) (familyIn bytes) (actorIn bytes) ≡ true
+  pub y15 : q15 (stateIn file area) (operationIn bytes) (familyIn bytes) ≡ true
+  pub y16 : q16 (stateIn file area) (operationIn bytes) (familyIn bytes) (actorIn bytes) ≡ true
+  pub y17 : q17 (stateIn file area) (operationIn bytes) (familyIn bytes) (actorIn bytes) ≡ true
+  pub y18 : q18 (configIn file) (stateIn file area) (operationIn bytes) (familyIn bytes) (actorIn bytes) ≡ true
+
+-- document 01, 'The questions': each of the twenty is a yes
+pub record AllYes (file area bytes answer : List ℕ) : Type 0 where
+  pub y1-18 : Upto18 file area bytes answer
+  pub y19 : q19 (configIn file) (stateIn file area) (operationIn bytes) (familyIn bytes) (actorIn bytes) ≡ true
+  pub y20 : q20 (configIn file) (stateIn file area) (operationIn bytes) (familyIn bytes) (actorIn bytes) ≡ true
+
+-- document 01, 'The questions': 0 is accepted
+abbrev pub Acceptance : Type 0
+Acceptance =
+    (file area bytes answer : List ℕ) → ((operate file area bytes answer) .0 ≡ 0) ↔ AllYes file area bytes answer
+
+-- question 19, codes 1 and 3: a write or read of a driver
+abbrev pub ByDriver : Operation → Type 0
+ByDriver op = (op .code ≡ 1) ⊎ (op .code ≡ 3)
+
+-- document 01, 'Reach': an active device, a pair that it reads by the rules, and an entry of it that crosses (document 01:
+-- is outside)
+abbrev pub SomeCrosses : Config → State → Type 0
+SomeCrosses config b =
+    (c o v : ℕ) × (e : Entry) × (active b c ≡ true) × Reads config true b c o v × List·Memᴰ e (entries config v)
+    × (crosses config b c e ≡ true)
+
+-- demand 2, question 19: with 1 to 18 a yes, exactly if there is one in the state that would follow
+abbrev pub Refusal19 : Type 0
+Refusal19 =
+    (file area bytes answer : List ℕ) → Upto18 file area bytes answer → ByDriver (operationIn bytes)
+    → ((operate file area bytes answer) .0 ≡ 19)
+    ↔ SomeCrosses (configIn file) (applied (configIn file) (operationIn bytes) (stateIn file area))
+
+-- question 20, codes 10 to 12: a deactivation
+abbrev pub Leaving : Operation → Type 0
+Leaving op = (op .code ≡ 10) ⊎ ((op .code ≡ 11) ⊎ (op .code ≡ 12))
+
+-- question 20: an active device, in code 11 another one, a pair that it reads by the rules, and an entry of it that names
+-- an object concerned
+abbrev pub SomeNames : Config → State → Operation → Type 0
+SomeNames config b op =
+    (c o v : ℕ) × (e : Entry) × (active b c ≡ true) × (op .code ≡ 11 → c ≡ op .subject → ⊥)
+    × Reads config true b c o v × List·Memᴰ e (entries config v)
+    × (concerned config op (actorOf (op .code)) (e .object) ≡ true)
+
+-- demand 2, question 20: with 1 to 18 a yes, exactly if there is one in the state before the call
+abbrev pub Refusal20 : Type 0
+Refusal20 =
+    (file area bytes answer : List ℕ) → Upto18 file area bytes answer → Leaving (operationIn bytes)
+    → ((operate file area bytes answer) .0 ≡ 20)
+    ↔ SomeNames (configIn file) (stateIn file area) (operationIn bytes)
+
+-- demand 2 as one statement; what an accepted call leaves is `operate`'s own definition (Gate)
+pub record Demand2 : Type 0 where
+  pub accepted : Acceptance
+  pub refused-19 : Refusal19
+  pub refused-20 : Refusal20
