@@ -1,6 +1,7 @@
 pub mod Lists
 pub mod Columns
 pub mod Entries
+pub mod NumberMeans
 pub mod Turns
 pub mod Groups
 pub mod Accepted

@@ -5,7 +5,7 @@ use mathlib.Core.Bool.{Bool, true, false, not, cond, _&&_, _||_}
 use lib.ListN.{length, getD, set}
 use lib.Dec.{leb, eqb}
 use Rattle.model.specs.Base.{all, every}
-use Rattle.model.specs.Number.{numberAt}
+use Rattle.model.specs.Number.{numberAt, numMeans}
 use Rattle.model.specs.Config.{
   mostDrivers,
   mostDevices,
@@ -28,7 +28,6 @@ use Rattle.model.specs.Config.{
   Entry,
   entries,
 }
-use Rattle.model.specs.declared.Fault.the-variants.{Cut, Form}
 use Rattle.model.specs.declared.Num.{Num}
 use Rattle.model.specs.declared.Num.the-variants.{Got, Bad}
 use Rattle.model.specs.declared.Field.{Field}
@@ -46,9 +45,7 @@ use Rattle.model.specs.declared.Loaded.{Loaded}
 
 -- the question, 1 or 2, that a number answers with no
 abbrev pub numQuestion : Num → ℕ
-numQuestion (Got v next) = 0
-numQuestion (Bad Cut) = 1
-numQuestion (Bad Form) = 2
+numQuestion n = (numMeans n) .0
 
 -- questions 1 to 3 of one number, in this order; 3: is it in its field's range?
 unfoldable pub ranged : ℕ → ℕ → Num → Field

@@ -21,11 +21,18 @@ pub fn open<'a>(src: &'a [u8]) -> Reader<'a>
     Reader { src, at: 0 }
 }
 
+// The number at a place of a slice.
+fn number_in(s: &[u8], at: usize) -> Num
+    ensures { λ r. ⌜ r ≡ numberAt (now (s .entry)) at ⌝ }
+{
+    varint::decode(s, at)
+}
+
 // The number at the reader's place.
 pub fn next<'a>(r: Reader<'a>) -> Num
     ensures { λ n. ⌜ n ≡ numberAt (now (r .entry .src)) (r .entry .at) ⌝ }
 {
-    varint::decode(r.src, r.at)
+    number_in(r.src, r.at)
 }
 
 // The reader moved on to `at`.

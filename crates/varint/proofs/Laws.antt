@@ -11,8 +11,22 @@ use lib.Seq.{drop-cons, getD-drop}
 use borrow.Author.Tests.{lt-ltb, le-ltb, le-leb, lt-leb, eq-eqb, ne-eqb}
 use native.Mathlib.Omega.{arith}
 use Rattle.model.specs.declared.Fault.the-variants.{Cut, Form}
+use Rattle.model.specs.declared.Num.{Num}
 use Rattle.model.specs.declared.Num.the-variants.{Got, Bad}
-use Rattle.model.specs.Number.{mostNumber, mostBytes, lead, valueOf, shortest, formed, formAt, headAt, numberAt}
+use Rattle.model.specs.Number.{
+  mostNumber,
+  mostBytes,
+  lead,
+  valueOf,
+  shortest,
+  formed,
+  formAt,
+  headAt,
+  numberAt,
+  numMeans,
+  meantAt,
+}
+use Rattle.model.proofs.NumberMeans.{means-at}
 
 module _ (s : List ℕ) (i : ℕ) where
   pub lead-last : i < length s → getD s i 0 < 128 → lead (drop i s) ≡ 0
@@ -107,3 +121,7 @@ number-one s at b h e small =
     sym (number-form s at at p h
     ∙ rw z (form-got at (drop at s) 0 at b (omega arith) v
     (formed-right (drop at s) 0 b v (omega arith) (shortest-one (drop at s) 0 (omega arith)) (omega arith))))
+
+-- the number at a place, with what it means
+pub meant : (s : List ℕ) (at : ℕ) (r : Num) → r ≡ numberAt s at → (r ≡ numberAt s at) × (numMeans r ≡ meantAt s at)
+meant s at r e = (e, means-at s at r e)

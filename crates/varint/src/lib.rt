@@ -2,7 +2,7 @@
 ghost use mathlib.Core.Path.{_≡_};
 ghost use Prim.Native.Nat.{_+_, _≤_, _<_};
 ghost use lib.ListN.{length, drop};
-ghost use Rattle.model.specs.Number.{mostBytes, lead, valueOf, numberAt};
+ghost use Rattle.model.specs.Number.{mostBytes, lead, valueOf, numberAt, numMeans, meantAt};
 pub use model::Fault;
 use model::MOST_BYTES;
 use model::MOST_NUMBER;
@@ -69,9 +69,11 @@ fn long_number(s: &[u8], at: usize) -> Num
     Num::Got(v, end + 1)
 }
 
-// The number at `at` with the place after it, or what is wrong there. Most numbers of a file have one byte.
+// The number at `at` with the place after it, or what is wrong there; and what each case means by questions 1 and 2.
+// Most numbers of a file have one byte.
 pub fn decode(s: &[u8], at: usize) -> Num
     ensures { λ r. ⌜ r ≡ numberAt (now (s .entry)) at ⌝ }
+    ensures { λ r. ⌜ numMeans r ≡ meantAt (now (s .entry)) at ⌝ }
 {
     if at < s.len() {
         let first = wide(s[at]);

@@ -1,6 +1,6 @@
 -- `varint::decode` meets its contract: one byte is the law `number-one`, the rest is the callee's. Assumes nothing.
 use borrow.Author.Needs.{needs}
-use Rattle.varint.proofs.Laws.{number-one}
+use Rattle.varint.proofs.Laws.{number-one, meant}
 use Rattle.varint.proofs.decode.Statement.{statement}
 use Rattle.varint.proofs.decode.Tie as tie
 
@@ -14,13 +14,13 @@ add-t9 : tie.Need-add-t9
 add-t9 c = search needs
 
 returns : tie.Need-returns
-returns c = search number-one
+returns c = meant _ _ _ (search number-one)
 
 long-number-requires : tie.Need-long-number-requires
 long-number-requires c κs = search needs
 
 returns-2 : tie.Need-returns-2
-returns-2 c = search needs
+returns-2 c = meant _ _ _ (search needs)
 
 pub decode-spec : {M : Type 1} → statement M
 decode-spec =

@@ -19,17 +19,17 @@ num-question-requires c κs = search needs
 
 returns : tie.Need-returns
 returns c =
-    Laws.field-bad _ _ _ _ _ (c .before .before .before .decode .ensures) _ _ (c .before .enum-told .given .1)
+    Laws.field-bad _ _ _ _ _ (c .before .before .before .decode .ensures .0) _ _ (c .before .enum-told .given .1)
     (c .num-question .ensures)
 
 returns-2 : tie.Need-returns-2
 returns-2 c =
-    Laws.field-low _ _ _ _ _ (c .before .before .before .before .decode .ensures) _ _ (c .before .before .n .given .1)
+    Laws.field-low _ _ _ _ _ (c .before .before .before .before .decode .ensures .0) _ _ (c .before .before .n .given .1)
     (c .if1 .taken)
 
 returns-3 : tie.Need-returns-3
 returns-3 c =
-    Laws.field-high _ _ _ _ _ (c .before .before .before .before .before .decode .ensures) _ _
+    Laws.field-high _ _ _ _ _ (c .before .before .before .before .before .decode .ensures .0) _ _
     (c .before .before .before .n .given .1) (c .if2 .taken)
 
 cast-t11 : tie.Need-cast-t11
@@ -37,7 +37,7 @@ cast-t11 c = search needs
 
 returns-4 : tie.Need-returns-4
 returns-4 c =
-    Laws.field-value _ _ _ _ _ (c .before .before .before .before .before .decode .ensures) _ _
+    Laws.field-value _ _ _ _ _ (c .before .before .before .before .before .decode .ensures .0) _ _
     (c .before .before .before .n .given .1) (c .before .if1 .left) (c .if2 .left)
 
 pub read-field-spec : {M : Type 1} → statement M

@@ -64,14 +64,14 @@ returns c =
     let c₄ = c₃ .before in let c₅ = c₄ .before .before .before .before .before .before in let a = c₅ .args in
     let l = c₄ .loop in onward-bad (a .line .now) (a .session .now) (a .area .now) (a .answer .now) (a .out .now)
     (l .area) (l .answer) (l .out) (l .at) (l .place) (l .end) (l .inv .6) _ (part-to-end (a .session .now) (l .at)) _
-    (c₃ .loop-test .taken) (c₂ .decode .ensures) _ (c₁ .enum-told .given .1) (c .before .before .put-cut .ensures)
+    (c₃ .loop-test .taken) (c₂ .decode .ensures .0) _ (c₁ .enum-told .given .1) (c .before .before .put-cut .ensures)
 
 sub-if1 : tie.Need-sub-if1 Inv-loop μ-loop
 sub-if1 c =
     let c₁ = c .before .before .before in
     let w =
     number-within _ (c .before .size .given .0 .0) (c .before .size .given .0 .1 .0) (c₁ .decode .result)
-    (c₁ .decode .ensures) (c .before .size .given .1) in
+    (c₁ .decode .ensures .0) (c .before .size .given .1) in
     w .1
 
 put-cut-requires-2 : tie.Need-put-cut-requires-2 Inv-loop μ-loop
@@ -92,11 +92,11 @@ returns-2 c =
     let c₄ = c₃ .before .before in let c₅ = c₄ .before in
     let c₆ = c₅ .before .before .before .before .before .before in let a = c₆ .args in let l = c₅ .loop in
     let w =
-    number-within _ (c₂ .size .given .0 .0) (c₂ .size .given .0 .1 .0) (c₃ .decode .result) (c₃ .decode .ensures)
+    number-within _ (c₂ .size .given .0 .0) (c₂ .size .given .0 .1 .0) (c₃ .decode .result) (c₃ .decode .ensures .0)
     (c₂ .size .given .1) in
     onward-short (a .line .now) (a .session .now) (a .area .now) (a .answer .now) (a .out .now) (l .area) (l .answer)
     (l .out) (l .at) (l .place) (l .end) (l .inv .6) _ (part-to-end (a .session .now) (l .at)) _
-    (c₄ .loop-test .taken) (c₃ .decode .ensures) (c₂ .size .given .0 .0) (c₂ .size .given .0 .1 .0)
+    (c₄ .loop-test .taken) (c₃ .decode .ensures .0) (c₂ .size .given .0 .0) (c₂ .size .given .0 .1 .0)
     (c₂ .size .given .1) (omega (arith, c₁ .if1 .taken, w .1)) (c .before .before .put-cut2 .ensures)
 
 add-stop : tie.Need-add-stop Inv-loop μ-loop
@@ -115,7 +115,7 @@ part-judge-record-end : tie.Need-part-judge-record-end Inv-loop μ-loop
 part-judge-record-end c =
     let c₁ = c .before .before .before in let c₂ = c₁ .before .before in
     let w =
-    number-within _ (c₁ .size .given .0 .0) (c₁ .size .given .0 .1 .0) (c₂ .decode .result) (c₂ .decode .ensures)
+    number-within _ (c₁ .size .given .0 .0) (c₁ .size .given .0 .1 .0) (c₂ .decode .result) (c₂ .decode .ensures .0)
     (c₁ .size .given .1) in
     omega (arith, c .before .if1 .left, w .1)
 
@@ -128,7 +128,7 @@ add-at c =
     let c₂ = c₁ .before .before in let c₃ = c₂ .before .before in let c₄ = c₃ .before .before in
     let c₅ = c₄ .before in let c₆ = c₅ .before .before .before .before .before .before in let a = c₆ .args in
     let l = c₅ .loop in let n = c₂ .size .given .0 .0 in let from = c₂ .size .given .0 .1 .0 in
-    let w = number-within _ n from (c₃ .decode .result) (c₃ .decode .ensures) (c₂ .size .given .1) in
+    let w = number-within _ n from (c₃ .decode .result) (c₃ .decode .ensures .0) (c₂ .size .given .1) in
     let s =
     stop-within (a .session .now) _ (l .at) n from (part-to-end (a .session .now) (l .at)) (c₄ .loop-test .taken)
     (w .1) (c₁ .if1 .left) in
@@ -140,7 +140,7 @@ loop-less c =
     let c₂ = c₁ .before .before in let c₃ = c₂ .before .before in let c₄ = c₃ .before .before in
     let c₅ = c₄ .before in let c₆ = c₅ .before .before .before .before .before .before in let a = c₆ .args in
     let l = c₅ .loop in let n = c₂ .size .given .0 .0 in let from = c₂ .size .given .0 .1 .0 in
-    let w = number-within _ n from (c₃ .decode .result) (c₃ .decode .ensures) (c₂ .size .given .1) in
+    let w = number-within _ n from (c₃ .decode .result) (c₃ .decode .ensures .0) (c₂ .size .given .1) in
     let s =
     stop-within (a .session .now) _ (l .at) n from (part-to-end (a .session .now) (l .at)) (c₄ .loop-test .taken)
     (w .1) (c₁ .if1 .left) in
@@ -153,7 +153,7 @@ loop-again c =
     let c₆ = c₅ .before .before in let c₇ = c₆ .before .before in let c₈ = c₇ .before in
     let c₉ = c₈ .before .before .before .before .before .before in let a = c₉ .args in let l = c₈ .loop in
     let n = c₅ .size .given .0 .0 in let from = c₅ .size .given .0 .1 .0 in
-    let w = number-within _ n from (c₆ .decode .result) (c₆ .decode .ensures) (c₅ .size .given .1) in
+    let w = number-within _ n from (c₆ .decode .result) (c₆ .decode .ensures .0) (c₅ .size .given .1) in
     let s =
     stop-within (a .session .now) _ (l .at) n from (part-to-end (a .session .now) (l .at)) (c₇ .loop-test .taken)
     (w .1) (c₄ .if1 .left) in (
@@ -165,7 +165,7 @@ loop-again c =
       c .before .out3 .given ∙ l .inv .5,
       onward-next (a .line .now) (a .session .now) (a .area .now) (a .answer .now) (a .out .now) (l .area) (l .answer)
           (l .out) (l .at) (l .place) (l .end) (l .inv .6) _ (part-to-end (a .session .now) (l .at)) _
-          (c₇ .loop-test .taken) (c₆ .decode .ensures) n from (c₅ .size .given .1)
+          (c₇ .loop-test .taken) (c₆ .decode .ensures .0) n from (c₅ .size .given .1)
           (omega (arith, c₄ .if1 .left, w .1)) (c₃ .judge-record .ensures),
     )
 
