@@ -1,5 +1,5 @@
 -- What a search over the words of the closure answers is what the rules, and the model's computed search, say.
-use Prim.Native.Nat.{ℕ, _+_, _-_}
+use Prim.Native.Nat.{ℕ, suc, _+_, _-_}
 use native.Mathlib.Omega.{arith}
 use mathlib.Core.Path.{_≡_, refl, sym, ap, subst, _∙_}
 use mathlib.Core.Bool.{Bool, true, false, not, _&&_, _||_}
@@ -9,6 +9,7 @@ use lib.ListN.{getD}
 use Rattle.model.specs.Config.{kindOf, descriptor, Entry, reads, writes, entries}
 use Rattle.model.specs.State.{State}
 use Rattle.model.specs.Closure.{Collected, Reads, start, stored, own, next, crosses, survey, confined, unnamed}
+use Rattle.model.specs.Questions.{ask}
 use Rattle.model.specs.declared.Config.{Config}
 use Rattle.model.proofs.Lists.{no-both, not-true}
 use Rattle.model.proofs.Entries.{entry-place}
@@ -25,6 +26,7 @@ use Rattle.closure.specs.Search.{
   Suspected,
   Hit,
   Answers,
+  findingMeans,
   isNothing,
   closureOf,
   IsCrossing,
@@ -135,20 +137,35 @@ survey-answer config b bad ok is Nothing h =
     sym (survey-exact config b ok .1
     (λ c o v r e l. is c e ∙ ap not (not-true (bad c e) (λ t. h c o v e r l t))))
 
+-- and so is its number; and the other way round
+pub number-of : (q : ℕ) (r : Finding) (t : Bool) → isNothing r ≡ t → (findingMeans q r) .0 ≡ ask q t 0
+number-of q (Found c o v j) t h = ap (λ (b : Bool). ask q b 0) h
+number-of q Nothing t h = ap (λ (b : Bool). ask q b 0) h
+
+pub nothing-of : (q : ℕ) (r : Finding) (t : Bool) → (findingMeans (suc q) r) .0 ≡ ask (suc q) t 0 → isNothing r ≡ t
+nothing-of q (Found c o v j) true h = absurd (omega arith)
+nothing-of q (Found c o v j) false h = refl
+nothing-of q Nothing true h = refl
+nothing-of q Nothing false h = absurd (omega arith)
+
 module _ (config : Config) (b : State) where
   -- question 19
   abbrev Crossing : ℕ → Entry → Bool
   Crossing c e = crossing (config .objects .kind) b c (e .object)
 
-  pub crossing-answer : (r : Finding) → Answers (closureOf config b) Crossing r → isNothing r ≡ confined config b
+  pub crossing-answer : (r : Finding) → Answers (closureOf config b) Crossing r
+      → (findingMeans 19 r) .0 ≡ ask 19 (confined config b) 0
   unfolding crossing
-  crossing-answer r h = survey-answer config b Crossing (λ c e. not (crosses config b c e)) (λ c e. refl) r h
+  crossing-answer r h =
+      number-of 19 r (confined config b)
+      (survey-answer config b Crossing (λ c e. not (crosses config b c e)) (λ c e. refl) r h)
 
-  pub crossing-entry : (r : Finding) → Answers (closureOf config b) Crossing r → IsCrossing config b r
+  pub crossing-entry : (r : Finding) → Answers (closureOf config b) Crossing r
+      → IsCrossing config b (findingMeans 19 r)
   unfolding crossing
-  crossing-entry (Found c o v j) h =
+  crossing-entry (Found c o v j) h = λ k.
       record { read = h .read; there = h .there; listed = h .listed; is-bad = h .is-bad }
-  crossing-entry Nothing h = tt
+  crossing-entry Nothing h = λ k. absurd (k refl)
 
   -- question 20
   module _ (table : List ℕ) (but : ℕ) where
@@ -163,14 +180,16 @@ module _ (config : Config) (b : State) where
     de-morgan false t = refl
 
     pub naming-answer : (r : Finding) → Answers (closureOf config b) Naming r
-        → isNothing r ≡ unnamed config b concerned but
+        → (findingMeans 20 r) .0 ≡ ask 20 (unnamed config b concerned but) 0
     unfolding naming
     naming-answer r h =
-        survey-answer config b Naming (λ c e. eqb c but || not (concerned (e .object)))
-        (λ c e. de-morgan (eqb c but) (concerned (e .object))) r h
+        number-of 20 r (unnamed config b concerned but)
+        (survey-answer config b Naming (λ c e. eqb c but || not (concerned (e .object)))
+        (λ c e. de-morgan (eqb c but) (concerned (e .object))) r h)
 
-    pub naming-entry : (r : Finding) → Answers (closureOf config b) Naming r → IsNaming config b concerned but r
+    pub naming-entry : (r : Finding) → Answers (closureOf config b) Naming r
+        → IsNaming config b concerned but (findingMeans 20 r)
     unfolding naming
-    naming-entry (Found c o v j) h =
+    naming-entry (Found c o v j) h = λ k.
         record { read = h .read; there = h .there; listed = h .listed; is-bad = h .is-bad }
-    naming-entry Nothing h = tt
+    naming-entry Nothing h = λ k. absurd (k refl)

@@ -3,7 +3,7 @@ use Prim.Native.Nat.{ℕ, _+_, _-_, _≤_, _<_}
 use mathlib.Core.Path.{_≡_}
 use mathlib.Core.Logic.{_⊎_}
 use mathlib.Core.Bool.{Bool, true, false, not, _&&_}
-use mathlib.Core.List.{List, List·Memᴰ}
+use mathlib.Core.List.{List, [], _∷_, List·Memᴰ}
 use lib.ListN.{getD}
 use lib.Dec.{eqb}
 use Rattle.model.specs.Config.{Entry, entryPlace, entries}
@@ -119,24 +119,31 @@ Answers m bad Nothing =
     (c o v : ℕ) (e : Entry) → Reads (m .config) (m .storing) (m .state) c o v → List·Memᴰ e (entries (m .config) v)
     → bad c e ≡ true → ⊥
 
-abbrev pub isFound : Finding → Bool
-isFound (Found c o v j) = true
-isFound Nothing = false
+-- document 01, questions 19 and 20, for each case of a search's answer to question q: the number, q where it is answered
+-- no and else 0; and the values, the device, the descriptor, the value and the entry's number in the value
+abbrev pub findingMeans : ℕ → Finding → ℕ × List ℕ
+findingMeans q (Found c o v j) = (q, c ∷ o ∷ v ∷ j ∷ [])
+findingMeans q Nothing = (0, [])
 
+-- where the number is not 0, the values are those of an entry in a pair that a device reads, and it is bad
+abbrev pub Tells : Scene → (ℕ → Entry → Bool) → ℕ × List ℕ → Type 0
+Tells m bad f =
+    (f .0 ≡ 0 → ⊥) → Hit m bad (getD (f .1) 0 0) (getD (f .1) 1 0) (getD (f .1) 2 0) (getD (f .1) 3 0)
+
+-- a search answered no entry
 abbrev pub isNothing : Finding → Bool
-isNothing s = not (isFound s)
+isNothing (Found c o v j) = false
+isNothing Nothing = true
 
 -- the scene in which write entries count (document 01: reach)
 abbrev pub closureOf : Config → State → Scene
 closureOf config b = record { config = config; storing = true; state = b }
 
 -- question 19: an entry that is answered is in the closure, and crosses
-abbrev pub IsCrossing : Config → State → Finding → Type 0
-IsCrossing config b (Found c o v j) = Hit (closureOf config b) (crosses config b) c o v j
-IsCrossing config b Nothing = Unit {0}
+abbrev pub IsCrossing : Config → State → ℕ × List ℕ → Type 0
+IsCrossing config b m = Tells (closureOf config b) (crosses config b) m
 
 -- question 20: an entry that is answered is in the closure, of another device, and names an object concerned
-abbrev pub IsNaming : Config → State → (ℕ → Bool) → ℕ → Finding → Type 0
-IsNaming config b concerned but (Found c o v j) =
-    Hit (closureOf config b) (λ d e. not (eqb d but) && concerned (e .object)) c o v j
-IsNaming config b concerned but Nothing = Unit {0}
+abbrev pub IsNaming : Config → State → (ℕ → Bool) → ℕ → ℕ × List ℕ → Type 0
+IsNaming config b concerned but m =
+    Tells (closureOf config b) (λ d e. not (eqb d but) && concerned (e .object)) m
