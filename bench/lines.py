@@ -4,8 +4,7 @@ import random
 import sys
 
 sys.path.insert(0, str(pathlib.Path(__file__).resolve().parent.parent / "tests"))
-from papers import AREA, DEVICES_FROM, DRIVERS_FROM, record_at  # noqa: E402
-from vectors import row  # noqa: E402
+from layout import AREA, DEVICES_FROM, DRIVERS_FROM, record_at, row  # noqa: E402
 
 READ, WRITE, BOTH = 1, 2, 3
 

@@ -3,22 +3,20 @@
 A program makes the same call TIMES times. One call is what many calls take more than one, divided: start and end of the
 program fall out, and the figure holds for a call that finds its code and its heap as the call before left them.
 """
-import os
 import pathlib
 import re
 import subprocess
 import sys
 
 TOP = pathlib.Path(__file__).resolve().parent.parent
-REFERENCE = TOP / "target" / "reference"
 
 TIMES = 100
 # Some calls of the reference take many millions of instructions; they are all the same, so that fewer are enough.
 REFERENCE_TIMES = 5
 
 
-def run(*words, **more):
-    done = subprocess.run([str(w) for w in words], capture_output=True, text=True, cwd=TOP, **more)
+def run(*words):
+    done = subprocess.run([str(w) for w in words], capture_output=True, text=True, cwd=TOP)
     if done.returncode:
         sys.exit(f"{words[0]}: {done.stdout}{done.stderr}")
     return done
@@ -41,13 +39,6 @@ def build(program, library, *sources):
     run("make", "-s", f"target/staticlib/lib{library}.a")
     run("gcc", "-O2", "-Wall", "-Wextra", "-Werror", "-o", program, *sources, f"target/staticlib/lib{library}.a")
     return program
-
-
-def build_reference():
-    """The same calls over the second implementation, built for release."""
-    run("cargo", "build", "--offline", "--locked", "--quiet", "--release", "--manifest-path", "reference/Cargo.toml",
-        env={**os.environ, "CARGO_TARGET_DIR": str(REFERENCE)})
-    return REFERENCE / "release" / "calls"
 
 
 def write_case(folder, line, record=b""):

@@ -15,7 +15,7 @@ import lines  # noqa: E402
 import parts  # noqa: E402
 import stack  # noqa: E402
 import vectors  # noqa: E402
-from measure import REFERENCE_TIMES, build, build_reference, one_call, write_case  # noqa: E402
+from measure import REFERENCE_TIMES, build, one_call, write_case  # noqa: E402
 
 QUARTER = {"devices": 4, "objects": 24, "values": 12}
 CHAINS = (1, 10, 40)
@@ -88,7 +88,7 @@ def reference_cases(size):
 def reference_table(folder):
     """The library beside the second implementation, on the same bytes; both must give the stated answer."""
     program = build(f"{folder}/calls", "gate", "-Iinclude", "bench/calls.c")
-    reference = build_reference()
+    reference = vectors.reference_program("calls")
     print(f"{'beside the reference':<42}{'answer':>6}{'reference':>12}{'library':>10}{'ref/lib':>8}")
     for name, size in (("full", {}), ("quarter", QUARTER)):
         for label, call, line, record, stated in reference_cases(size):

@@ -1,49 +1,26 @@
 #!/usr/bin/env python3
-"""Stored cases of the program `vectors`, with what document 01 says of them.
+"""Stored cases of the program `vectors`, with the answers that the second implementation (reference/) gives.
 
     tests/vectors.py            write crates/vectors/stdin, stdout and cases.txt
     tests/vectors.py --check    fail if what is stored differs
 
-A named case states its answer here, and the reading of document 01 in tests/papers.py must agree with it; that reading
-also gives the checksums and the answers of the generated cases. A case is a byte for what is called, its length in two
-bytes, lower byte first, and its bytes; its row is its place from 1, the answer, and a checksum of what the call left
-(0 where it leaves nothing).
+The cases are made here and judged elsewhere: answers and checksums are the reference's, by its program `vectors`. A
+named case states its answer, and if the reference gives another, nothing is written and the check fails. A case is a
+byte for what is called, its length in two bytes, lower byte first, and its bytes; its row is its place from 1, the
+answer, and a checksum of what the call left (0 where it leaves nothing).
 """
+import os
 import pathlib
 import random
+import subprocess
 import sys
 
-from papers import (AREA, CONTENT, DEVICES_FROM, DRIVERS_FROM, MOST_DEVICES, MOST_DRIVERS, MOST_ENTRIES, MOST_ITEMS,
-                    MOST_OBJECTS, MOST_VALUES, Config, decode, formed, fresh, load, record_at)
+from layout import (AREA, CONTENT, DEVICES_FROM, DRIVERS_FROM, MOST_DEVICES, MOST_DRIVERS, MOST_ENTRIES, MOST_ITEMS,
+                    MOST_OBJECTS, MOST_VALUES, record_at, row, two)
 
-HOME = pathlib.Path(__file__).resolve().parent.parent / "crates" / "vectors"
+TOP = pathlib.Path(__file__).resolve().parent.parent
+HOME = TOP / "crates" / "vectors"
 LOAD, FRESH, FORMED, OPERATION, FRESH_SHORT, FRESH_LONG = 1, 2, 3, 4, 5, 6
-# What an area holds before a fresh state is made in it.
-OLD_BYTE = 0xAA
-
-
-def number(n):
-    out = bytearray()
-    while n >= 128:
-        out.append(n % 128 + 128)
-        n //= 128
-    return bytes(out + bytes([n]))
-
-
-def row(numbers):
-    return b"".join(number(n) for n in numbers)
-
-
-def two(n):
-    """A number in two bytes, lower byte first."""
-    return bytes([n % 256, n // 256])
-
-
-def checksum(numbers):
-    s = 0
-    for x in numbers:
-        s = (s * 31 + x) % 65521
-    return s
 
 
 # Document 01's file L, by groups.
@@ -75,7 +52,7 @@ def full_size():
     return row(out)
 
 
-def named_files():
+def named_counts():
     yield "document 01's file L", row(L), 0
     yield "no driver, device, object or value", row([1, 0, 0, 0, 0]), 0
     yield "every count at its limit", full_size(), 0
@@ -91,6 +68,9 @@ def named_files():
     yield "an empty file", b"", 1
     yield "edition 0", row([0, 0, 0, 0, 0]), 3
     yield "edition 2", row([2, 0, 0, 0, 0]), 3
+
+
+def named_numbers():
     groups = [("counts", 1, 5), ("objects", 5, 23), ("devices", 23, 25), ("values", 25, 45)]
     for name, first, last in groups:
         for place in range(first, last):
@@ -107,6 +87,9 @@ def named_files():
     yield "a number of 2,097,151", bytes([0xFF, 0xFF, 0x7F]), 2
     yield "a byte left over", row(L) + b"\0", 4
     yield "a malformed byte left over", row(L) + b"\x80", 4
+
+
+def named_fields():
     yield "kind 0", with_numbers((5, 0)), 3
     yield "kind 5", with_numbers((5, 5)), 3
     yield "owner class 3", with_numbers((6, 3)), 3
@@ -125,6 +108,9 @@ def named_files():
     yield "a stored value by mode 1", with_numbers((28, 1)), 3
     yield "a stored value for an object of kind 3", with_numbers((36, 1)), 3
     yield "a stored value that is not there", with_numbers((40, 6)), 3
+
+
+def named_hardcoded():
     yield "5: a device without a hardcoded descriptor", with_numbers((5, 1)), 5
     yield "5: a device with two", with_numbers((8, 4), (44, 0)), 5
     yield "5: an external hardcoded descriptor", with_numbers((17, 4)), 5
@@ -163,7 +149,7 @@ def generated_files(rnd):
         data = bytearray(row(out))
         if rnd.random() < 0.1:
             data[rnd.randrange(len(data))] = rnd.randrange(256)
-        yield f"generated file {i + 1}", bytes(data), load(bytes(data))
+        yield f"generated file {i + 1}", bytes(data)
 
 
 def named_fresh():
@@ -174,8 +160,8 @@ def named_fresh():
     yield "fresh: every count at its limit", full_size(), AREA, 0
 
 
-# A well formed state of L: partitions 1 and 2 exist and 3 is destroyed; driver 1, device 1 and object 5 are in 1, device 2
-# in 2; object 2 holds value 3 and object 6 some bytes.
+# A well formed state of L: partitions 1 and 2 exist and 3 is destroyed; driver 1, device 1 and object 5 are in 1,
+# device 2 in 2; object 2 holds value 3 and object 6 some bytes.
 ACTIVE = {1: 1, 2: 1, 3: 2, DRIVERS_FROM: 1, DEVICES_FROM: 1, DEVICES_FROM + 1: 2, record_at(1): 1, record_at(1) + 1: 1,
           record_at(2): 1, record_at(2) + 1: 3, record_at(3): 2, record_at(3) + 1: 2, record_at(4): 2, record_at(5): 1,
           record_at(6): 1, record_at(6) + 1: 200, record_at(6) + 16: 7}
@@ -252,58 +238,66 @@ SHORT = {1: [1, 1, 1, 2, 0, 3], 2: [2, 1, 1, 2, 0, 3], 3: [3, 1, 1, 5, 0], 4: [4
          7: [7, 1, 1], 8: [8, 2, 2], 9: [9, 1, 1, 5], 10: [10, 1], 11: [11, 2], 12: [12, 1, 2, 5, 6]}
 
 
-def operation_sum(operation):
-    """The checksum of an operation's fields, in the order of its struct."""
-    code, subject, partition, items = operation
-    filled = items + [(0, 0, 0, bytes(CONTENT))] * (MOST_ITEMS - len(items))
-    columns = [[item[i] for item in filled] for i in range(3)]
-    return checksum([code, subject, partition, len(items)] + sum(columns, []) + list(b"".join(i[3] for i in filled)))
-
-
-def case(label, call, data, stated, answer, left=0):
-    if stated != answer:
-        sys.exit(f"{label}: stated {stated}, read {answer}")
-    return label, bytes([call]) + two(len(data)) + data, answer, left
+def case(label, call, data, stated=None):
+    """A case and, if it is a named one, the answer that it states."""
+    return label, bytes([call]) + two(len(data)) + data, stated
 
 
 def cases():
-    for label, data, stated in [*named_files(), *generated_files(random.Random(1))]:
-        yield case(label, LOAD, data, stated, load(data))
+    for named in (named_counts(), named_numbers(), named_fields(), named_hardcoded()):
+        for label, data, stated in named:
+            yield case(label, LOAD, data, stated)
+    for label, data in generated_files(random.Random(1)):
+        yield case(label, LOAD, data)
     for label, file, length, stated in named_fresh():
-        answer = load(file) or (0 if length == AREA else 7)
-        area = bytes([OLD_BYTE] * length) if answer else bytes(fresh(Config(file)))
-        call = {AREA - 1: FRESH_SHORT, AREA: FRESH, AREA + 1: FRESH_LONG}[length]
-        yield case(label, call, file, stated, answer, checksum(area))
+        yield case(label, {AREA - 1: FRESH_SHORT, AREA: FRESH, AREA + 1: FRESH_LONG}[length], file, stated)
     for label, changes, stated in named_areas():
-        area = bytearray(AREA)
-        for place, value in {**ACTIVE, **changes}.items():
-            area[place] = value
-        patches = b"".join(two(p) + bytes([b]) for p, b in enumerate(area) if b)
-        yield case(label, FORMED, bytes([len(L)]) + row(L) + patches, stated, 0 if formed(Config(row(L)), area) else 9)
+        area = sorted({**ACTIVE, **changes}.items())
+        patches = b"".join(two(place) + bytes([byte]) for place, byte in area if byte)
+        yield case(label, FORMED, bytes([len(L)]) + row(L) + patches, stated)
     for label, record, stated in named_records():
-        operation = decode(record)
-        if operation == 10:
-            yield case(label, OPERATION, record, stated, 10)
-        else:
-            yield case(label, OPERATION, record, stated, 0, operation_sum(operation))
+        yield case(label, OPERATION, record, stated)
+
+
+def reference_program(name):
+    """A program of the reference, built for release in the folder that tests/reference.sh uses too."""
+    folder = TOP / "target" / "reference"
+    subprocess.run(["cargo", "build", "--offline", "--locked", "--quiet", "--release", "--manifest-path",
+                    str(TOP / "reference" / "Cargo.toml")], check=True,
+                   env={**os.environ, "CARGO_TARGET_DIR": str(folder)})
+    return folder / "release" / name
+
+
+def judged(stdin):
+    """The reference's rows for the cases."""
+    return subprocess.run([str(reference_program("vectors"))], input=stdin, stdout=subprocess.PIPE, check=True).stdout
 
 
 def files():
-    """The three files, by name."""
-    stdin, stdout, rows = bytearray(), [], []
-    for place, (label, data, answer, left) in enumerate(cases(), 1):
-        stdin += data
-        stdout.append(f"{place} {answer} {left}\n")
-        rows.append(f"{place} {answer} {label}\n")
-    return {"stdin": bytes(stdin), "stdout": "".join(stdout).encode(), "cases.txt": "".join(rows).encode()}
+    """The three files, by name; ends the program if the reference does not answer what a named case states."""
+    made = list(cases())
+    stdin = b"".join(data for _, data, _ in made)
+    stdout = judged(stdin)
+    rows = [[int(word) for word in line.split()] for line in stdout.decode().splitlines()]
+    if [place for place, _, _ in rows] != list(range(1, len(made) + 1)):
+        sys.exit(f"the reference gives {len(rows)} rows for {len(made)} cases, or not in their order")
+    wrong, listed = [], []
+    for (label, _, stated), (place, answer, _) in zip(made, rows):
+        listed.append(f"{place} {answer} {label}\n")
+        if stated is not None and stated != answer:
+            wrong.append(f"{label}: stated {stated}, the reference answers {answer}")
+    if wrong:
+        sys.exit("\n".join(wrong))
+    return {"stdin": stdin, "stdout": stdout, "cases.txt": "".join(listed).encode()}
 
 
 def main():
-    check = sys.argv[1:] == ["--check"]
+    if sys.argv[1:] not in ([], ["--check"]):
+        sys.exit("tests/vectors.py [--check]")
     made = files()
     for name, data in made.items():
         path = HOME / name
-        if not check:
+        if len(sys.argv) == 1:
             path.write_bytes(data)
         elif not path.exists() or path.read_bytes() != data:
             sys.exit(f"{name} is not what tests/vectors.py makes")

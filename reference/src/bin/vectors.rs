@@ -1,0 +1,138 @@
+//! The stored cases of `crates/vectors`, judged by the reference: cases on standard input, a row for each on standard
+//! output. tests/vectors.py makes the cases and says what they are.
+//!
+//! A case is a byte for what is called, its length in two bytes, lowest first, and its bytes. A row is the case's place
+//! from 1, the answer, and a checksum of what the call left (0 where it leaves nothing).
+
+use reference::limits::{MAX_COUNT, STATE_BYTES};
+use reference::operation::{self, Operation, Put};
+use reference::state::{CLEARED, Contents, State, well_formed};
+use reference::{fresh, load, load_check};
+use std::io::{Read, Write};
+use std::process::ExitCode;
+
+/// What a case calls: the load check; making a fresh state in an area of the right length, of a byte less and of a byte
+/// more; question 9; question 10.
+const LOAD: u8 = 1;
+const FRESH: u8 = 2;
+const FORMED: u8 = 3;
+const OPERATION: u8 = 4;
+const FRESH_SHORT: u8 = 5;
+const FRESH_LONG: u8 = 6;
+
+const HEAD_BYTES: usize = 3;
+const PATCH_BYTES: usize = 3;
+
+/// What an area holds before a fresh state is made in it.
+const OLD_BYTE: u8 = 0xAA;
+
+/// An answer, and the checksum of what was left.
+type Row = (u32, u64);
+
+fn main() -> ExitCode {
+    match run() {
+        Ok(()) => ExitCode::SUCCESS,
+        Err(message) => {
+            eprintln!("{message}");
+            ExitCode::FAILURE
+        }
+    }
+}
+
+fn run() -> Result<(), String> {
+    let (mut cases, mut rows) = (Vec::new(), String::new());
+    std::io::stdin().read_to_end(&mut cases).map_err(|error| error.to_string())?;
+    let (mut rest, mut place) = (&cases[..], 0);
+    while !rest.is_empty() {
+        place += 1;
+        let (call, bytes, behind) = cut(rest).ok_or_else(|| format!("case {place} is cut short"))?;
+        let (answer, left) = judge(call, bytes).ok_or_else(|| format!("case {place} is none"))?;
+        rows += &format!("{place} {answer} {left}\n");
+        rest = behind;
+    }
+    std::io::stdout().write_all(rows.as_bytes()).map_err(|error| error.to_string())
+}
+
+/// The first case: what is called, its bytes, and what stands behind it.
+fn cut(cases: &[u8]) -> Option<(u8, &[u8], &[u8])> {
+    let (head, rest) = cases.split_at_checked(HEAD_BYTES)?;
+    let (bytes, behind) = rest.split_at_checked(two(head[1], head[2]))?;
+    Some((head[0], bytes, behind))
+}
+
+fn two(low: u8, high: u8) -> usize {
+    usize::from(low) + 256 * usize::from(high)
+}
+
+fn judge(call: u8, bytes: &[u8]) -> Option<Row> {
+    match call {
+        LOAD => Some((load_check(bytes), 0)),
+        FRESH => Some(judge_fresh(bytes, STATE_BYTES)),
+        FRESH_SHORT => Some(judge_fresh(bytes, STATE_BYTES - 1)),
+        FRESH_LONG => Some(judge_fresh(bytes, STATE_BYTES + 1)),
+        FORMED => judge_formed(bytes),
+        OPERATION => Some(judge_record(bytes)),
+        _ => None,
+    }
+}
+
+fn judge_fresh(line: &[u8], length: usize) -> Row {
+    let mut area = vec![OLD_BYTE; length];
+    let answer = fresh(line, &mut area);
+    (answer, checksum(area.into_iter().map(usize::from)))
+}
+
+/// A file after its length in one byte, then the bytes of the area that are not 0: a place in two bytes, and the byte.
+fn judge_formed(bytes: &[u8]) -> Option<Row> {
+    let (length, rest) = bytes.split_first()?;
+    let (line, patches) = rest.split_at_checked(usize::from(*length))?;
+    let mut area = vec![0; STATE_BYTES];
+    for patch in patches.chunks(PATCH_BYTES) {
+        let [low, high, byte] = *patch else { return None };
+        *area.get_mut(two(low, high))? = byte;
+    }
+    let answer = match load(line) {
+        Err(number) => u32::from(number),
+        Ok(config) if well_formed(&config, &State::from_bytes(&area)?) => 0,
+        Ok(_) => 9,
+    };
+    Some((answer, 0))
+}
+
+fn judge_record(record: &[u8]) -> Row {
+    operation::read(record).map_or((10, 0), |operation| (0, checksum(fields(&operation).into_iter())))
+}
+
+/// One of the eight places of an operation: an object, then a value number or a destination, a form, sixteen bytes.
+type Part = (usize, usize, usize, Contents);
+
+/// An operation as its fields: code, who acts, partition, count; then by columns its parts, with zeros behind the last.
+fn fields(operation: &Operation) -> Vec<usize> {
+    let mut parts = parts(operation);
+    let actor = operation.actor().map_or(0, |actor| actor.number());
+    let mut all = vec![operation.code(), actor, operation.partition().unwrap_or(0), parts.len()];
+    parts.resize(MAX_COUNT, (0, 0, 0, CLEARED));
+    all.extend(parts.iter().map(|part| part.0));
+    all.extend(parts.iter().map(|part| part.1));
+    all.extend(parts.iter().map(|part| part.2));
+    all.extend(parts.iter().flat_map(|part| part.3).map(usize::from));
+    all
+}
+
+fn parts(operation: &Operation) -> Vec<Part> {
+    match operation {
+        Operation::Write { items, .. } => items
+            .iter()
+            .map(|item| match item.put {
+                Put::Value(value) => (item.object, value, 0, CLEARED),
+                Put::Raw(contents) => (item.object, 0, 1, contents),
+            })
+            .collect(),
+        Operation::Read { pairs, .. } => pairs.iter().map(|pair| (pair.source, pair.destination, 0, CLEARED)).collect(),
+        _ => operation.targets().into_iter().map(|object| (object, 0, 0, CLEARED)).collect(),
+    }
+}
+
+fn checksum(numbers: impl Iterator<Item = usize>) -> u64 {
+    numbers.fold(0, |sum, number| (sum * 31 + number as u64) % 65_521)
+}
