@@ -34,6 +34,12 @@ def one_call(folder, program, *words, times=TIMES):
     return (many - instructions(folder, program, *first, 1, last)[0]) // times, answer
 
 
+def expect(label, stated, *answers):
+    """Ends the run if an answer is not the one that the case states: what is counted would be another call."""
+    if any(answer != stated for answer in answers):
+        sys.exit(f"{label}: stated {stated}, answered {' and '.join(answers)}")
+
+
 def build(program, library, *sources):
     """A C program over a proved library, which is built if it is missing or older than its sources."""
     run("make", "-s", f"target/staticlib/lib{library}.a")

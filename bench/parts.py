@@ -5,7 +5,7 @@ import re
 
 import lines
 import vectors
-from measure import TIMES, build, one_call, run, write_case
+from measure import TIMES, build, expect, one_call, run, write_case
 
 # A function's part in a call, by the names that callgrind gives; what the compiler put into its caller counts there.
 PARTS = [("load the file", r"config::"), ("look for an entry", r"closure::answer::look"),
@@ -26,8 +26,7 @@ def steps_table(folder):
     before = 0
     for label, call, record, stated in cases:
         whole, answer = one_call(folder, program, *write_case(folder, line, record), call)
-        if answer != stated:
-            raise SystemExit(f"{label}: stated {stated}, the library answers {answer}")
+        expect(label, stated, answer)
         print(f"{label:<36}{answer:>8}{whole:>10}{whole - before:>10}")
         before = whole
 

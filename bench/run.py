@@ -15,7 +15,7 @@ import lines  # noqa: E402
 import parts  # noqa: E402
 import stack  # noqa: E402
 import vectors  # noqa: E402
-from measure import REFERENCE_TIMES, build, one_call, write_case  # noqa: E402
+from measure import REFERENCE_TIMES, build, expect, one_call, write_case  # noqa: E402
 
 QUARTER = {"devices": 4, "objects": 24, "values": 12}
 CHAINS = (1, 10, 40)
@@ -24,15 +24,14 @@ CHAINS = (1, 10, 40)
 def load_table(folder):
     program = build(f"{folder}/load", "gate", "bench/load.c", "bench/plain.c")
     print(f"{'load check':<36}{'bytes':>6}{'answer':>8}{'plain C':>10}{'library':>10}{'ratio':>8}")
-    cases = [("document 01's L", vectors.row(vectors.L)), ("every count at its limit", vectors.full_size()),
-             ("65,535 bytes, no last one", bytes([255] * 65535))]
-    for label, data in cases:
+    cases = [("document 01's L", vectors.row(vectors.L), "0"), ("every count at its limit", vectors.full_size(), "0"),
+             ("65,535 bytes, no last one", bytes([255] * 65535), "1")]
+    for label, data, stated in cases:
         file = pathlib.Path(folder) / "line.bin"
         file.write_bytes(data)
         plain, first = one_call(folder, program, file, "plain")
         gate, second = one_call(folder, program, file, "gate")
-        if first != second:
-            sys.exit(f"{label}: plain C answers {first}, the library {second}")
+        expect(label, stated, first, second)
         print(f"{label:<36}{len(data):>6}{first:>8}{plain:>10}{gate:>10}{gate / plain:>8.2f}")
 
 
@@ -60,12 +59,15 @@ def operate_table(folder):
     line.elsewhere.clear()
     last = max(n for n, o in line.objects.items() if o[0] == 3)
     raw = vectors.row([1, 1, 1, last, 1]) + bytes(range(16))
-    cases = [("create a partition", vectors.row([5, 3])), ("destroy: refused, not empty", vectors.row([6, 1])),
-             ("a driver writes data", raw), ("a driver reads eight objects", vectors.row([3, 1, 8] + [last, 0] * 8)),
-             ("a device reads a descriptor", vectors.row([4, 1, 1, line.own(1)[0], 0])),
-             ("a device leaves: refused", vectors.row([11, 1]))]
-    for label, record in cases:
+    cases = [("create a partition", vectors.row([5, 3]), "0"),
+             ("destroy: refused, not empty", vectors.row([6, 1]), "15"),
+             ("a driver writes data", raw, "0"),
+             ("a driver reads eight objects", vectors.row([3, 1, 8] + [last, 0] * 8), "0"),
+             ("a device reads a descriptor", vectors.row([4, 1, 1, line.own(1)[0], 0]), "0"),
+             ("a device leaves: refused", vectors.row([11, 1]), "20")]
+    for label, record, stated in cases:
         whole, answer = one_call(folder, program, *write_case(folder, line, record), "operate")
+        expect(label, stated, answer)
         print(f"{label:<36}{answer:>8}{whole:>10}")
 
 
@@ -99,8 +101,7 @@ def reference_table(folder):
             paths = write_case(folder, line, record)
             gate, first = one_call(folder, program, *paths, call)
             other, second = one_call(folder, reference, *paths, call, times=REFERENCE_TIMES)
-            if (first, second) != (stated, stated):
-                sys.exit(f"{label}: stated {stated}, the library answers {first}, the reference {second}")
+            expect(label, stated, first, second)
             print(f"{label:<42}{first:>6}{other:>12}{gate:>10}{other / gate:>8.1f}")
 
 
