@@ -49,4 +49,4 @@ bench: $(library)
 	python3 bench/run.py
 
 clean:
-	rm -rf target/staticlib target/bindings target/lint target/gate.log target/probe.log
+	rm -rf target/staticlib target/bindings target/lint target/gate.log

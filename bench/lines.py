@@ -1,4 +1,4 @@
-"""Configurations and states for the benchmark of the closure's search: the bytes of a line file and of a state area."""
+"""Configurations and states for the benchmark: the bytes of a line file, of a state area, and of a record for it."""
 import pathlib
 import random
 import sys
@@ -7,11 +7,15 @@ sys.path.insert(0, str(pathlib.Path(__file__).resolve().parent.parent / "tests")
 from layout import AREA, DEVICES_FROM, DRIVERS_FROM, record_at, row  # noqa: E402
 
 READ, WRITE, BOTH = 1, 2, 3
+# Full size is what the constructors below take if nothing is said.
+QUARTER = {"devices": 4, "objects": 24, "values": 12}
+# A driver of the one partition, and one that is in another wherever a case needs it.
+AT_HOME, STRANGER = 1, 2
 
 
 class Line:
-    """A configuration with everything in partition 1, or in none if `inactive`; objects are (kind, class, owner), and
-    values lists of entries."""
+    """A configuration with everything in partition 1, or in none if `inactive`, but the objects `elsewhere` and the
+    drivers `strangers`, which are in 2; objects are (kind, class, owner), and values lists of entries."""
 
     def __init__(self, drivers, devices, objects, values, last=False):
         """The hardcoded descriptors have the smallest numbers, or the largest if `last`."""
@@ -23,6 +27,7 @@ class Line:
         self.values = {v: [] for v in range(1, values + 1)}
         self.held = {}
         self.elsewhere = set()
+        self.strangers = set()
         self.inactive = False
 
     def own(self, device):
@@ -42,13 +47,18 @@ class Line:
         area[1] = area[2] = 1
         place = 0 if self.inactive else 1
         for i in range(self.drivers):
-            area[DRIVERS_FROM + i] = place
+            area[DRIVERS_FROM + i] = 2 if i + 1 in self.strangers else place
         for i in range(self.devices):
             area[DEVICES_FROM + i] = place
         for n, (kind, _, owner) in self.objects.items():
             area[record_at(n)] = 2 if n in self.elsewhere else place
             area[record_at(n) + 1] = self.hardcoded[owner] if kind == 4 else self.held.get(n, 0)
         return bytes(area)
+
+    def rewrite(self, driver):
+        """A record: the driver writes into a descriptor the value that it holds, and so leaves the state as it is."""
+        descriptor, value = next(iter(self.held.items()))
+        return row([1, driver, 1, descriptor, 0, value])
 
 
 def dense(devices=16, objects=96, values=47, seed=1, last=False):
@@ -123,3 +133,22 @@ def chain_out(steps, devices=16, objects=96, values=47):
         line.values[v] = [(objects - v + 1, BOTH, v + 1)]
     line.values[steps + 1] = [(outside, READ, 0)]
     return line
+
+
+def undescribed():
+    """One card whose descriptors describe nothing, and two drivers."""
+    line = Line(2, 1, 2, 1)
+    line.held[2] = 1
+    return line
+
+
+def searches():
+    """Lines whose closure question 19 searches: a label, the line, and the answer if AT_HOME rewrites."""
+    yield "dense", dense(), "0"
+    yield "longest chain", chain(), "0"
+    yield "first entry crosses", crossing(), "19"
+    yield "first entry crosses, order turned", crossing(last=True), "19"
+    yield "dense, a quarter", dense(**QUARTER), "0"
+    yield "longest chain, a quarter", chain(**QUARTER), "0"
+    yield "first entry crosses, a quarter", crossing(**QUARTER), "19"
+    yield "one card, nothing described", undescribed(), "0"

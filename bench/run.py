@@ -17,7 +17,6 @@ import stack  # noqa: E402
 import vectors  # noqa: E402
 from measure import REFERENCE_TIMES, build, expect, one_call, write_case  # noqa: E402
 
-QUARTER = {"devices": 4, "objects": 24, "values": 12}
 CHAINS = (1, 10, 40)
 
 
@@ -36,19 +35,16 @@ def load_table(folder):
 
 
 def search_table(folder):
-    program = build(f"{folder}/search", "probe", "bench/search.c")
+    """A write that question 19 searches, beside the same write by a driver whom question 17 refuses just before."""
+    program = build(f"{folder}/calls", "gate", "-Iinclude", "bench/calls.c")
     print(f"{'search of the closure':<36}{'answer':>8}{'before':>10}{'search':>10}")
-    cases = [("dense", lines.dense()), ("longest chain", lines.chain()), ("first entry crosses", lines.crossing()),
-             ("first entry crosses, order turned", lines.crossing(last=True)),
-             ("dense, a quarter", lines.dense(**QUARTER)), ("longest chain, a quarter", lines.chain(**QUARTER)),
-             ("first entry crosses, a quarter", lines.crossing(**QUARTER))]
-    for label, line in cases:
-        file, area, _ = write_case(folder, line)
-        before, first = one_call(folder, program, file, area, 0)
-        whole, answer = one_call(folder, program, file, area, 1)
-        if first != "0":
-            sys.exit(f"{label}: the questions before the search answer {first}")
-        print(f"{label:<36}{answer:>8}{before:>10}{whole - before:>10}")
+    for label, line, stated in lines.searches():
+        line.strangers.add(lines.STRANGER)
+        before, first = one_call(folder, program, *write_case(folder, line, line.rewrite(lines.STRANGER)), "operate")
+        whole, second = one_call(folder, program, *write_case(folder, line, line.rewrite(lines.AT_HOME)), "operate")
+        expect(f"{label}, before", "17", first)
+        expect(label, stated, second)
+        print(f"{label:<36}{second:>8}{before:>10}{whole - before:>10}")
 
 
 def operate_table(folder):
@@ -92,7 +88,7 @@ def reference_table(folder):
     program = build(f"{folder}/calls", "gate", "-Iinclude", "bench/calls.c")
     reference = vectors.reference_program("calls")
     print(f"{'beside the reference':<42}{'answer':>6}{'reference':>12}{'library':>10}{'ref/lib':>8}")
-    for name, size in (("full", {}), ("quarter", QUARTER)):
+    for name, size in (("full", {}), ("quarter", lines.QUARTER)):
         for label, call, line, record, stated in reference_cases(size):
             label = f"{name}: {label}"
             if line is None:
