@@ -1,171 +1,234 @@
-// Throws random and mutated inputs of every length at the three functions, and checks that bytes outside the areas and,
-// on refusal, inside them are untouched, and that every answer is one of the numbers.
-//   garbage TIMES SEED   prints how often each number came
+// Throws random and mutated inputs of every length at the three functions, twice: in the first pass each area ends
+// where a forbidden page begins, in the second each begins where one ends, and line and record cannot be written. So a
+// byte that is read or written beside an area is seen. A refusal leaves state and answer area as they were, an accepted
+// call leaves what document 01 says; the same inputs get the same answers in both passes; and in each pass every number
+// is answered, every code is accepted and every area is empty at least once.
+//   garbage TIMES SEED   makes TIMES calls in each pass; prints how often each number came, and each code was accepted
 #include <stdio.h>
 #include <stdlib.h>
 #include <string.h>
 
+#include "areas.h"
+#include "effect.h"
+#include "inputs.h"
 #include "sorter_gate.h"
 
-enum { GUARD = 64, MOST = 4096, NUMBERS = 21 };
+// A session is a fresh state and the calls after it, on one sound line.
+enum { NUMBERS = 21, CODES = 13, SESSION = 256 };
 
-static uint64_t seed;
+enum call { LOAD_CHECK, FRESH, OPERATE, CALLS };
 
-static uint32_t next_random(void) {
-    seed = seed * 6364136223846793005u + 1442695040888963407u;
-    return (uint32_t)(seed >> 33);
-}
+// For each its name, the last question that it puts, and how many of the areas it takes, the first ones.
+static const char *const CALL_TEXTS[CALLS] = {"gate_load_check", "gate_fresh", "gate_operate"};
+static const uint32_t LAST_NUMBERS[CALLS] = {6, 7, 20};
+static const int TAKES[CALLS] = {LINE + 1, STATE + 1, ANSWER + 1};
 
-static size_t below(size_t n) {
-    return n ? next_random() % n : 0;
-}
-
-// An area with guards before and behind it.
-struct area {
-    uint8_t bytes[GUARD + MOST + GUARD];
-    uint8_t copy[GUARD + MOST + GUARD];
-    size_t length;
+struct tally {
+    unsigned long numbers[NUMBERS], codes[CODES], empty[CALLS][AREAS];
 };
 
-static uint8_t *start(struct area *a) {
-    return a->bytes + GUARD;
+// The answers of the first pass, one after the other.
+static uint8_t *first_answers;
+
+// The sound line of the session, and how many calls were made since its last fresh state.
+static uint8_t sound[MOST_LINE];
+static size_t sound_length, step;
+
+// The pages of state and answer area as they must be after the call, the bytes around the areas too.
+static uint8_t expected[AREAS][PAGE];
+
+static uint8_t *expected_start(enum area_name name) {
+    return expected[name] + (own_start(name) - areas[name].own);
 }
 
-static void keep(struct area *a) {
-    memcpy(a->copy, a->bytes, sizeof a->bytes);
+static void put(enum area_name name, const uint8_t *bytes, size_t length) {
+    areas[name].length = length;
+    memcpy(own_start(name), bytes, length);
 }
 
-static void fail(const char *what, uint32_t answer) {
-    fprintf(stderr, "%s (answer %u)\n", what, answer);
-    exit(1);
-}
-
-// Nothing outside the area changed; inside only if it may.
-static void check(const struct area *a, int may_change, uint32_t answer, const char *what) {
-    size_t end = GUARD + a->length;
-    if (memcmp(a->bytes, a->copy, GUARD) || memcmp(a->bytes + end, a->copy + end, sizeof a->bytes - end)) {
-        fail(what, answer);
+static uint32_t make_call(enum call call) {
+    const uint8_t *line = lent_start(LINE), *record = lent_start(RECORD);
+    uint8_t *state = lent_start(STATE), *answer = lent_start(ANSWER);
+    trial.call = CALL_TEXTS[call];
+    if (call == LOAD_CHECK) {
+        return gate_load_check(line, areas[LINE].length);
     }
-    if (!may_change && memcmp(a->bytes, a->copy, sizeof a->bytes)) {
-        fail(what, answer);
+    if (call == FRESH) {
+        return gate_fresh(line, areas[LINE].length, state, areas[STATE].length);
+    }
+    return gate_operate(line, areas[LINE].length, state, areas[STATE].length, record, areas[RECORD].length, answer,
+                        areas[ANSWER].length);
+}
+
+static void compare(enum area_name name, uint32_t number) {
+    const uint8_t *found = areas[name].own, *wanted = expected[name];
+    if (memcmp(found, wanted, PAGE) == 0) {
+        return;
+    }
+    while (*found == *wanted) {
+        found++;
+        wanted++;
+    }
+    complain(number ? "refused by %u, and changed the %s at place %td"
+                    : "accepted (%u), and did not leave the %s as document 01 says at place %td",
+             number, area_text(name), found - own_start(name));
+}
+
+// Does to the expected pages what the accepted call has to do to the areas; ends if it should not have been accepted.
+static void follow(enum call call, struct tally *tally) {
+    const uint8_t *line = own_start(LINE), *record = own_start(RECORD);
+    if (!line_fits(line, areas[LINE].length)) {
+        complain("accepted (0) a line that it must refuse");
+    }
+    if ((call != LOAD_CHECK && areas[STATE].length != SORTER_GATE_STATE_BYTES) ||
+        (call == OPERATE && areas[ANSWER].length < SORTER_GATE_ANSWER_BYTES)) {
+        complain("accepted (0) a length that it must refuse");
+    }
+    if (call == FRESH) {
+        follow_fresh(line, expected_start(STATE));
+        step = 0;
+    } else if (call == OPERATE) {
+        if (!record_fits(line, record, areas[RECORD].length)) {
+            complain("accepted (0) a record that it must refuse");
+        }
+        follow_operation(line, record, expected_start(STATE), expected_start(ANSWER));
+        tally->codes[record[0]]++;
     }
 }
 
-static const uint8_t LINE_L[] = {1, 2, 2, 6, 5, 4, 2, 1, 1, 2, 1, 4, 2, 2, 1, 2, 2, 3, 0, 0, 3, 1, 1,
-                                 1, 2, 1, 2, 1, 0, 1, 4, 1, 0, 1, 5, 2, 0, 1, 4, 2, 3, 1, 2, 2, 4};
-
-static const uint8_t RECORDS[][8] = {
-    {5, 1},
-    {5, 2},
-    {7, 1, 1},
-    {8, 1, 1},
-    {8, 2, 2},
-    {9, 1, 1, 5},
-    {1, 1, 1, 2, 0, 3},
-    {12, 1, 1, 5},
-    {3, 1, 1, 5, 0},
-    {4, 1, 1, 2, 0},
-    {6, 2},
-    {11, 2},
-    {10, 1},
-    {1, 1, 1, 2, 0, 5},
-    {3, 1, 2, 6, 5, 5, 0},
-};
-
-static const uint8_t LENGTHS[] = {2, 2, 3, 3, 3, 4, 6, 4, 5, 5, 2, 2, 2, 6, 7};
-
-static void random_bytes(uint8_t *to, size_t n) {
-    uint32_t most = below(3) ? 8 : 256;
-    for (size_t i = 0; i < n; i++) {
-        to[i] = (uint8_t)below(most);
+// The first pass keeps the answer, the second must have the same one.
+static void compare_passes(uint32_t number) {
+    uint8_t *first = &first_answers[trial.input - 1];
+    if (trial.place == ENDS_AT_BORDER) {
+        *first = (uint8_t)number;
+    } else if (*first != number) {
+        complain("answered %u, and in the pass before %u", number, *first);
     }
 }
 
-// Some bytes changed, taken away or added.
-static size_t mutate(uint8_t *to, size_t n, size_t room) {
-    for (size_t k = below(4); k > 0; k--) {
-        size_t kind = below(3);
-        if (kind == 0 && n > 0) {
-            to[below(n)] = (uint8_t)below(below(2) ? 8 : 256);
-        } else if (kind == 1 && n > 0) {
-            n--;
-        } else if (n < room) {
-            to[n++] = (uint8_t)below(256);
+// Makes a call, and holds what it left to what it may leave.
+static uint32_t checked_call(enum call call, struct tally *tally) {
+    memcpy(expected[STATE], areas[STATE].own, PAGE);
+    memcpy(expected[ANSWER], areas[ANSWER].own, PAGE);
+    for (int name = LINE; name < TAKES[call]; name++) {
+        tally->empty[call][name] += areas[name].length == 0;
+    }
+    step++;
+    uint32_t number = make_call(call);
+    if (number > LAST_NUMBERS[call]) {
+        complain("answered %u, which is none of its numbers", number);
+    }
+    compare_passes(number);
+    if (number == 0) {
+        follow(call, tally);
+    }
+    compare(STATE, number);
+    compare(ANSWER, number);
+    tally->numbers[number]++;
+    return number;
+}
+
+// Mostly the length that is asked for, otherwise any.
+static size_t some_length(size_t wanted) {
+    size_t kind = below(120);
+    return kind > 2 ? wanted : kind == 0 ? 0 : kind == 1 ? wanted - 1 + below(3) : below(PAGE + 1);
+}
+
+static void begin_session(struct tally *tally) {
+    sound_length = sound_line(sound);
+    put(LINE, sound, sound_length);
+    areas[STATE].length = SORTER_GATE_STATE_BYTES;
+    uint32_t number = checked_call(FRESH, tally);
+    if (number) {
+        complain("refused a fresh state of a sound line by %u", number);
+    }
+}
+
+// One call on inputs that may all be spoilt, the first ones of a state mostly to bring things in. A fresh state is made
+// seldom, since all is out again after it. A byte of the state that was spoilt in vain is put back.
+static void go_on(struct tally *tally) {
+    static uint8_t bytes[PAGE];
+    size_t kind = below(64);
+    enum call call = kind < 2 ? LOAD_CHECK : kind < 4 ? FRESH : OPERATE;
+    put(LINE, bytes, any_line(sound, sound_length, bytes));
+    size_t record_length = below(8) ? opening_record(sound, step, bytes) : 0;
+    put(RECORD, bytes, record_length ? record_length : any_record(sound, bytes));
+    areas[STATE].length = call == FRESH && below(4) ? below(2) * below(PAGE) : some_length(SORTER_GATE_STATE_BYTES);
+    areas[ANSWER].length = some_length(SORTER_GATE_ANSWER_BYTES + below(40));
+    size_t place = below(areas[STATE].length);
+    int spoil = call != LOAD_CHECK && areas[STATE].length && below(50) == 0;
+    uint8_t mask = spoil ? (uint8_t)(1 + below(255)) : 0;
+    if (spoil) {
+        own_start(STATE)[place] ^= mask;
+    }
+    if (checked_call(call, tally) && spoil) {
+        own_start(STATE)[place] ^= mask;
+    }
+}
+
+static void demand(const struct tally *tally) {
+    trial.call = "the library";
+    for (unsigned code = 1; code < CODES; code++) {
+        if (!tally->codes[code]) {
+            complain("never accepted code %u", code);
         }
     }
-    return n;
+    for (unsigned number = 0; number < NUMBERS; number++) {
+        if (!tally->numbers[number]) {
+            complain("never answered %u", number);
+        }
+    }
+    for (enum call call = LOAD_CHECK; call < CALLS; call++) {
+        for (int name = LINE; name < TAKES[call]; name++) {
+            if (!tally->empty[call][name]) {
+                complain("never got an empty %s by %s", area_text(name), CALL_TEXTS[call]);
+            }
+        }
+    }
 }
 
-static size_t make_line(uint8_t *to) {
-    if (below(8) == 0) {
-        size_t n = below(200);
-        random_bytes(to, n);
-        return n;
+// The same inputs in each pass.
+static void run_pass(enum place place, unsigned long times, uint64_t seed, struct tally *tally) {
+    trial = (struct trial){"the test itself", place, seed, 0};
+    seed_inputs(seed);
+    for (enum area_name name = LINE; name < AREAS; name++) {
+        random_bytes(areas[name].own, PAGE);
+        areas[name].length = 0;
     }
-    memcpy(to, LINE_L, sizeof LINE_L);
-    return below(4) ? sizeof LINE_L : mutate(to, sizeof LINE_L, 400);
-}
-
-static size_t make_record(uint8_t *to) {
-    if (below(6) == 0) {
-        size_t n = below(200);
-        random_bytes(to, n);
-        return n;
+    for (unsigned long i = 0; i < times; i++) {
+        trial.call = "the test itself";
+        trial.input = i + 1;
+        if (i % SESSION == 0) {
+            begin_session(tally);
+        } else {
+            go_on(tally);
+        }
     }
-    size_t i = below(sizeof LENGTHS);
-    memcpy(to, RECORDS[i], LENGTHS[i]);
-    return below(3) ? LENGTHS[i] : mutate(to, LENGTHS[i], 200);
+    demand(tally);
 }
 
 int main(int argc, char **argv) {
-    static struct area state, answer;
-    static uint8_t line[512], record[512];
-    static unsigned long count[NUMBERS];
+    static struct tally tallies[PLACES];
     if (argc != 3) {
         fprintf(stderr, "garbage TIMES SEED\n");
         return 2;
     }
-    seed = strtoull(argv[2], NULL, 10);
-    random_bytes(state.bytes, sizeof state.bytes);
-    random_bytes(answer.bytes, sizeof answer.bytes);
-    state.length = SORTER_GATE_STATE_BYTES;
-    gate_fresh(LINE_L, sizeof LINE_L, start(&state), state.length);
-    for (long i = strtol(argv[1], NULL, 10); i > 0; i--) {
-        size_t line_len = make_line(line), record_len = make_record(record), which = below(64);
-        uint8_t saved = 0;
-        size_t place = below(SORTER_GATE_STATE_BYTES);
-        state.length = below(40) ? SORTER_GATE_STATE_BYTES : below(MOST);
-        answer.length = below(40) ? SORTER_GATE_ANSWER_BYTES + below(40) : below(SORTER_GATE_ANSWER_BYTES);
-        int spoil = below(50) == 0;
-        if (spoil) {
-            saved = start(&state)[place];
-            start(&state)[place] ^= (uint8_t)(1 + below(255));
-        }
-        keep(&state);
-        keep(&answer);
-        uint32_t n;
-        if (which == 0) {
-            n = gate_load_check(line, line_len);
-            check(&state, 0, n, "gate_load_check wrote");
-        } else if (which == 1) {
-            n = gate_fresh(line, line_len, start(&state), state.length);
-            check(&state, n == 0, n, "gate_fresh wrote out of place");
-        } else {
-            n = gate_operate(line, line_len, start(&state), state.length, record, record_len, start(&answer),
-                             answer.length);
-            check(&state, n == 0, n, "gate_operate wrote out of place in the state");
-            check(&answer, n == 0, n, "gate_operate wrote out of place in the answer");
-        }
-        if (n >= NUMBERS) {
-            fail("no such answer", n);
-        }
-        count[n]++;
-        if (spoil && n != 0) {
-            start(&state)[place] = saved;
-        }
+    unsigned long times = strtoul(argv[1], NULL, 10);
+    first_answers = calloc(times + 1, 1);
+    if (!first_answers) {
+        perror("garbage");
+        return 2;
     }
-    for (int n = 0; n < NUMBERS; n++) {
-        printf("%d %lu\n", n, count[n]);
+    make_areas();
+    for (enum place place = ENDS_AT_BORDER; place < PLACES; place++) {
+        run_pass(place, times, strtoull(argv[2], NULL, 10), &tallies[place]);
+    }
+    free(first_answers);
+    for (int number = 0; number < NUMBERS; number++) {
+        printf("%d %lu\n", number, tallies[0].numbers[number]);
+    }
+    for (int code = 1; code < CODES; code++) {
+        printf("code %d accepted %lu\n", code, tallies[0].codes[code]);
     }
     return 0;
 }

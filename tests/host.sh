@@ -1,11 +1,94 @@
 #!/usr/bin/env bash
-# The library from the host's side: the C controller, and a million random and mutated inputs under AddressSanitizer.
-# (`make check` has the Rust binding.)
+# The library from the host's side: the C controller; a million random and mutated inputs, each with its areas against
+# forbidden pages, once at their ends and once at their beginnings; and the same test over libraries with a fault, each
+# of which it must tell. (`make check` has the Rust binding.)
+#   host.sh [TIMES [SEED]]
 set -euo pipefail
 cd "$(dirname "$0")/.."
 bash examples/controller/run.sh
 out=$(mktemp -d)
 trap 'rm -rf "$out"' EXIT
-gcc -std=c11 -O2 -Wall -Wextra -Werror -Iinclude -g -fsanitize=address,undefined -o "$out/garbage" tests/garbage.c \
-    target/staticlib/libgate.a
+
+# The sanitizers watch the test's own code alone: the library is not built for them.
+flags=(-std=c11 -O2 -Wall -Wextra -Werror -Iinclude -g -fsanitize=address,undefined)
+parts=()
+for name in garbage areas effect inputs faulty; do
+    gcc "${flags[@]}" -c -o "$out/$name.o" "tests/$name.c"
+    [ $name = faulty ] || parts+=("$out/$name.o")
+done
+gcc "${flags[@]}" -o "$out/garbage" "${parts[@]}" target/staticlib/libgate.a
 "$out/garbage" "${1:-1000000}" "${2:-1}"
+
+gcc "${flags[@]}" -o "$out/faulty" "${parts[@]}" "$out/faulty.o" target/staticlib/libgate.a \
+    -Wl,--wrap=gate_load_check,--wrap=gate_fresh,--wrap=gate_operate
+few=20000
+seen=0
+
+# A fault, and the message that the test must end with.
+must_tell() {
+    local status=0
+    GATE_FAULT=$1 "$out/faulty" $few 1 > "$out/rows" 2> "$out/told" || status=$?
+    if [ $status != 1 ] || ! grep -qE "^garbage: $2 \(pass: .*, seed 1, input [0-9]+\)$" "$out/told"; then
+        echo "host: with the fault '$1' the test ends with $status, and not with '$2':" >&2
+        tail -n 5 "$out/told" >&2
+        exit 1
+    fi
+    seen=$((seen + 1))
+}
+
+# What is read beside an area, or of an empty one.
+stray_reads() {
+    must_tell "read-behind $1 $2" "gate_$2 read at place ([0-9]+) of the $1, which has \1 bytes"
+    must_tell "read-before $1 $2" "gate_$2 read at place -1 of the $1, which has [0-9]+ bytes"
+    must_tell "read-empty $1 $2" "gate_$2 read at place 0 of the $1, which has 0 bytes"
+}
+
+# What is written into an area that is only to be read.
+stray_stores() {
+    must_tell "write-into $1 $2" "gate_$2 wrote at place 0 of the $1, which has [0-9]+ bytes"
+}
+
+# What is written beside an area that may be written, into it though the call is refused, or beyond what an accepted
+# call does.
+stray_changes() {
+    local refused="refused by [0-9]+, and changed the $1 at place"
+    local accepted="accepted \(0\), and did not leave the $1 as document 01 says at place"
+    must_tell "write-behind $1 $2" "gate_$2 wrote at place ([0-9]+) of the $1, which has \1 bytes"
+    must_tell "write-before $1 $2" "gate_$2 ($refused|$accepted) -1"
+    must_tell "change-refused $1 $2" "gate_$2 $refused [0-9]+"
+    must_tell "change-accepted $1 $2" "gate_$2 $accepted [0-9]+"
+}
+
+# Without a fault the few inputs are enough to pass.
+GATE_FAULT=none "$out/faulty" $few 1 > "$out/rows"
+for area in line state record answer; do
+    stray_reads $area operate
+done
+stray_reads line load_check
+stray_reads line fresh
+stray_reads state fresh
+for call in load_check fresh operate; do
+    stray_stores line $call
+done
+stray_stores record operate
+stray_changes state fresh
+stray_changes state operate
+stray_changes answer operate
+must_tell "constant 0" "gate_fresh accepted \(0\), and did not leave the state as document 01 says at place [0-9]+"
+must_tell "constant 7" "gate_fresh refused a fresh state of a sound line by 7"
+must_tell "constant 10" "gate_fresh answered 10, which is none of its numbers"
+must_tell "constant 21" "gate_fresh answered 21, which is none of its numbers"
+for number in 1 2 3 4; do
+    must_tell "accept $number" "gate_(load_check|fresh|operate) accepted \(0\) a line that it must refuse"
+done
+must_tell "accept 7" "gate_(fresh|operate) accepted \(0\) a length that it must refuse"
+must_tell "accept 8" "gate_operate accepted \(0\) a length that it must refuse"
+must_tell "accept 10" "gate_operate accepted \(0\) a record that it must refuse"
+must_tell "accept 11" "gate_operate accepted \(0\) a record that it must refuse"
+must_tell "accept 19" "gate_operate accepted \(0\), and did not leave the state as document 01 says at place [0-9]+"
+must_tell "never 1" "the library never answered 1"
+must_tell "never 20" "the library never answered 20"
+must_tell "refuse 1" "the library never accepted code 1"
+must_tell "refuse 12" "the library never accepted code 12"
+must_tell "place" "gate_operate answered 10, and in the pass before [0-9]+"
+echo "host: $seen faults put into the library, each told by the test"
