@@ -40,6 +40,7 @@ install: $(library)
 
 check: $(library)
 	bash tests/lint.sh
+	bash tests/archive.sh
 	bash tests/install.sh
 	python3 bench/stack.py
 	bash tests/bindings.sh
