@@ -1,7 +1,7 @@
 // The stack that a call takes: each call is made in a thread of its own whose stack was painted before. From the frame
 // of the caller down to the lowest byte that changed is what the call took. Two paints, so that a byte stored with the
 // paint's own value is not missed.
-//   stack LINE AREA RECORD   prints the bytes of a load check, of a fresh state and of the operation, and its answer
+//   stack LINE AREA RECORD   prints the bytes and the answer of a load check, of a fresh state and of the operation
 #define _POSIX_C_SOURCE 200809L
 #include <pthread.h>
 #include <stdio.h>
@@ -60,9 +60,15 @@ static size_t painted_depth(enum call call, int paint) {
     return (size_t)(frame - lowest);
 }
 
-static size_t depth(enum call call) {
-    size_t first = painted_depth(call, 0xA5), second = painted_depth(call, 0x5A);
-    return first > second ? first : second;
+// The same call twice, which must give the same answer.
+static void measure(enum call call) {
+    size_t first = painted_depth(call, 0xA5);
+    uint32_t first_number = number;
+    size_t second = painted_depth(call, 0x5A);
+    if (first_number != number) {
+        stop("the second call of two");
+    }
+    printf("%zu %u\n", first > second ? first : second, number);
 }
 
 int main(int argc, char **argv) {
@@ -73,7 +79,8 @@ int main(int argc, char **argv) {
     line_len = slurp(argv[1], line, sizeof line);
     area_len = slurp(argv[2], area, sizeof area);
     record_len = slurp(argv[3], record, sizeof record);
-    size_t load = depth(LOAD), fresh = depth(FRESH), operate = depth(OPERATE);
-    printf("%zu %zu %zu %u\n", load, fresh, operate, number);
+    for (enum call call = LOAD; call <= OPERATE; call++) {
+        measure(call);
+    }
     return 0;
 }

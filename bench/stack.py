@@ -1,7 +1,11 @@
 """The stack that a call takes, by painting: bench/stack.c on full-size lines, with a record of every code.
 
-    python3 bench/stack.py      prints the most for each function; fails above the bound of docs/CONTROLLER.md
+    python3 bench/stack.py      prints the most for each function; fails at an answer that is not the expected one,
+                                below what a call cannot do without, and above the bound of docs/CONTROLLER.md
+
+Then it measures libraries with a fault (tests/faulty.c), each of which must make it fail.
 """
+import os
 import pathlib
 import sys
 import tempfile
@@ -12,23 +16,60 @@ import vectors  # noqa: E402
 from measure import build, run, write_case  # noqa: E402
 
 # What docs/CONTROLLER.md counts on, before it adds room for the host's own frames and signals.
-MOST = 20480
+MOST = 17 * 1024
+# Every call fills tables of the line on its stack. A measurement of less has not seen the call.
+LEAST = 512
+
+# All names are bound before the first call: the loader would do that on the stack that is measured.
+SOURCES = ("gate", "-pthread", "-Wl,-z,now", "-Iinclude", "bench/stack.c")
+WRAP = "-Wl,--wrap=gate_load_check,--wrap=gate_fresh,--wrap=gate_operate"
+
+CALLS = ("load check", "fresh state", "operation")
+CODES = range(1, 13)
+
+# Faults by their names in tests/faulty.c, and how what is said of them begins.
+FAULTS = {
+    "constant 0": "operation: answer 0, not 10",
+    "constant 10": "load check: answer 10, not 0",
+    "elsewhere": "load check: less than",
+    "deep": "operation: more than",
+}
+
+
+def described_write(line):
+    """A write of device 1 that is described by what its hardcoded value reads; one that is not, if there is none."""
+    for read, _, _ in line.values.get(line.hardcoded[1], []):
+        for number, mode, stored in line.values[line.held[read]]:
+            if mode != lines.READ:
+                return [2, 1, 1, number, 0, stored]
+    return [2, 1, 1, line.own(1)[0], 0, 20]
 
 
 def records(line):
-    """Records of every code, accepted and refused, on a line whose last object is external data."""
+    """Records of every code on a line whose last object is external data, and their answers in the three states."""
     last, own = len(line.objects), line.own(1)[0]
     raw = bytes(range(16))
-    yield vectors.row([1, 1, 8]) + b"".join(vectors.row([n, 0, 20]) for n in line.own(1)[:5] + line.own(2)[:3])
-    yield vectors.row([1, 1, 1, last, 1]) + raw
-    yield vectors.row([1, 1, 1, last, 0, 2])
-    yield vectors.row([2, 1, 1, own, 0, 20])
-    yield vectors.row([3, 1, 8] + [last, 0] * 8)
-    yield vectors.row([3, 1, 1, own, line.own(1)[1]])
-    yield vectors.row([4, 1, 8] + [own, 0] * 8)
-    for numbers in ([5, 3], [6, 2], [6, 1], [7, 1, 1], [8, 1, 1], [9, 1, 1, last], [10, 1], [11, 1], [12, 1, 1, last]):
-        yield vectors.row(numbers)
-    yield b""
+    yield b"", (10, 10, 10)
+    eight = line.own(1)[:5] + line.own(2)[:3]
+    yield vectors.row([1, 1, 8]) + b"".join(vectors.row([n, 0, 20]) for n in eight), (0, 16, 10)
+    yield vectors.row([1, 1, 1, last, 1]) + raw, (0, 16, 13)
+    for answers, *numbers in (
+            ((13, 13, 19), 1, 1, 1, last, 0, 2),
+            ((18, 16, 18), 2, 1, 1, own, 0, 20),
+            ((0, 16, 18), *described_write(line)),
+            ((0, 16, 0), 3, 1, 8, *[last, 0] * 8),
+            ((0, 16, 0), 3, 1, 1, own, line.own(1)[1]),
+            ((0, 16, 18), 4, 1, 8, *[own, 0] * 8),
+            ((0, 0, 0), 5, 3),
+            ((0, 0, 15), 6, 2),
+            ((15, 0, 15), 6, 1),
+            ((16, 0, 16), 7, 1, 1),
+            ((16, 0, 16), 8, 1, 1),
+            ((16, 0, 13), 9, 1, 1, last),
+            ((0, 16, 0), 10, 1),
+            ((20, 16, 0), 11, 1),
+            ((0, 16, 13), 12, 1, 1, last)):
+        yield vectors.row(numbers), answers
 
 
 def states():
@@ -40,22 +81,56 @@ def states():
     yield lines.chain_out(40)
 
 
+def rows(program, folder, fault):
+    """For each state and record: the record's code, and for each call its bytes, its answer and the one expected."""
+    environment = {**os.environ, "GATE_FAULT": fault}
+    for place, line in enumerate(states()):
+        for record, answers in records(line):
+            told = run(program, *write_case(folder, line, record), env=environment).stdout.split()
+            depths, found = [[int(n) for n in told[i::2]] for i in (0, 1)]
+            yield record[:1], list(zip(CALLS, depths, found, (0, 0, answers[place])))
+
+
+def faults(row):
+    """What is wrong in a row: answers first, since a wrong one says what the bytes are worth."""
+    for call, _, found, expected in row:
+        if found != expected:
+            yield f"{call}: answer {found}, not {expected}"
+    for call, depth, _, _ in row:
+        if depth < LEAST:
+            yield f"{call}: less than {LEAST} bytes of stack, {depth}"
+        if depth > MOST:
+            yield f"{call}: more than the {MOST} bytes of stack that docs/CONTROLLER.md counts on, {depth}"
+
+
 def table(folder):
-    program = build(f"{folder}/stack", "gate", "-pthread", "-Iinclude", "bench/stack.c")
-    most, answers = [0, 0, 0], set()
-    for line in states():
-        for record in records(line):
-            *depths, answer = (int(n) for n in run(program, *write_case(folder, line, record)).stdout.split())
-            most = [max(pair) for pair in zip(most, depths)]
-            answers.add(answer)
+    program = build(f"{folder}/stack", *SOURCES)
+    most, answers, accepted = dict.fromkeys(CALLS, 0), set(), set()
+    for code, row in rows(program, folder, "none"):
+        for fault in faults(row):
+            sys.exit(fault)
+        for call, depth, _, _ in row:
+            most[call] = max(most[call], depth)
+        answers.add(row[-1][2])
+        accepted.update(code if row[-1][2] == 0 else b"")
+    if accepted != set(CODES):
+        sys.exit(f"only these codes are accepted: {sorted(accepted)}")
     print(f"{'stack of one call':<36}{'bytes':>8}")
-    for label, depth in zip(("load check", "fresh state", "operation"), most):
-        print(f"{label:<36}{depth:>8}")
+    for call, depth in most.items():
+        print(f"{call:<36}{depth:>8}")
     print(f"answers met: {', '.join(str(n) for n in sorted(answers))}")
-    if max(most) > MOST:
-        sys.exit(f"a call takes more than the {MOST} bytes that docs/CONTROLLER.md counts on")
+
+
+def try_faults(folder):
+    """Each fault makes the first row that it spoils fail, and for the reason that is expected."""
+    program = build(f"{folder}/faulty", *SOURCES, "tests/faulty.c", WRAP)
+    for name, expected in FAULTS.items():
+        said = next((fault for _, row in rows(program, folder, name) for fault in faults(row)), "nothing")
+        if not said.startswith(expected):
+            sys.exit(f"of a library with the fault '{name}' it is said: {said}")
 
 
 if __name__ == "__main__":
     with tempfile.TemporaryDirectory() as place:
         table(place)
+        try_faults(place)
