@@ -24,9 +24,9 @@ pub fn closure(config: &Config, state: &State) -> Closure {
     grow(config, state, usize::MAX).0
 }
 
-/// Faulty on purpose: one step and no more. Tests show that they can tell it from the closure.
-pub fn one_round(config: &Config, state: &State) -> Closure {
-    grow(config, state, 1).0
+/// Faulty on purpose: at most so many steps. Tests show that they can tell it from the closure.
+pub fn limited<const STEPS: usize>(config: &Config, state: &State) -> Closure {
+    grow(config, state, STEPS).0
 }
 
 /// How many steps it takes until nothing changes.

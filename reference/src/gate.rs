@@ -45,7 +45,7 @@ pub fn operate_with(search: Search, line: &[u8], state: &mut [u8], record: &[u8]
 }
 
 /// The state that follows and the contents read, or the first refusal.
-type Judgement = Result<(State, Vec<Contents>), u8>;
+pub type Judgement = Result<(State, Vec<Contents>), u8>;
 
 fn judge_areas(search: Search, line: &[u8], state: &[u8], record: &[u8], answer_bytes: usize) -> Judgement {
     let config = load(line)?;

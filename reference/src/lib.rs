@@ -2,11 +2,14 @@
 //! proved one. Nothing in the library prints.
 //!
 //! Bytes come in, `config` and `operation` make values of them, `questions` ask `state`, `trace` and `closure`,
-//! `effect` makes the state that follows, `gate` and `office` put bytes out. `generate` makes inputs.
+//! `effect` makes the state that follows, `gate` and `office` put bytes out. `generate` makes inputs; `faults` are
+//! judges that are wrong in one point each, and `coverage` counts what inputs show, the faults noticed among it.
 
 pub mod closure;
 pub mod config;
+pub mod coverage;
 pub mod effect;
+pub mod faults;
 pub mod gate;
 pub mod generate;
 pub mod limits;

@@ -1,7 +1,8 @@
-//! The command: `report`, `generate` and `sessions`.
+//! The command: `report`, `generate`, `sessions` and `coverage`.
 
+use reference::coverage::Coverage;
 use reference::generate::sessions::folder;
-use reference::generate::stored::{long, stored};
+use reference::generate::stored::{cases, long, stored};
 use reference::generate::{Rng, Size};
 use reference::limits::{LINE_LIMIT, SESSION_LIMIT};
 use reference::report;
@@ -13,7 +14,8 @@ use std::process::ExitCode;
 const USAGE: &str = "usage:
   reference report FOLDER
   reference generate [--seed S] [--count C] [--records R] [--size tiny|small|medium|deep|full] FOLDER
-  reference sessions [--seed S] [--count C] [--bytes B] [--long yes] OUT_STDIN OUT_STDOUT";
+  reference sessions [--seed S] [--count C] [--bytes B] [--long yes] OUT_STDIN OUT_STDOUT
+  reference coverage STDIN";
 
 fn main() -> ExitCode {
     let words: Vec<String> = std::env::args().skip(1).collect();
@@ -32,6 +34,7 @@ fn run(words: &[String]) -> Result<(), String> {
         (Some("report"), [folder]) => print_report(Path::new(folder)),
         (Some("generate"), [folder]) => generate(&options, Path::new(folder)),
         (Some("sessions"), [input, expected]) => sessions(&options, input, expected),
+        (Some("coverage"), [input]) => coverage(Path::new(input)),
         _ => Err(USAGE.to_string()),
     }
 }
@@ -135,4 +138,14 @@ fn sessions(options: &Options, input: &str, expected: &str) -> Result<(), String
     eprintln!("{} bytes of input, {} of output", cases.input.len(), cases.expected.len());
     let rare = cases.tally.rare(5);
     if rare.is_empty() { Ok(()) } else { Err(format!("shown fewer than five times: {rare:?}")) }
+}
+
+/// Prints what stored cases show; fails if anything is shown less often than it must be.
+fn coverage(input: &Path) -> Result<(), String> {
+    let bytes = fs::read(input).map_err(|error| format!("{}: {error}", input.display()))?;
+    let cases = cases(&bytes).ok_or_else(|| format!("{}: the last case is cut", input.display()))?;
+    let coverage = Coverage::of(&cases);
+    print!("{coverage}");
+    let missing = coverage.missing();
+    if missing.is_empty() { Ok(()) } else { Err(format!("shown too seldom:\n{}", missing.join("\n"))) }
 }

@@ -33,7 +33,7 @@ fn rows(line: &[u8], session: &[u8], state: &mut [u8]) -> String {
 }
 
 /// A length, put questions 1 and 2 only, and the record behind it; nothing if it is cut.
-fn next_record<'a>(reader: &mut Reader<'a>) -> Option<&'a [u8]> {
+pub fn next_record<'a>(reader: &mut Reader<'a>) -> Option<&'a [u8]> {
     let length = reader.number().ok()?;
     reader.raw(length)
 }

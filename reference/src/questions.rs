@@ -2,7 +2,7 @@
 //! or no; the first no gives its number.
 
 use crate::closure::{self, Search};
-use crate::config::{Config, Kind, Owner};
+use crate::config::{Config, Entry, Kind, Owner};
 use crate::effect;
 use crate::limits::MAX_PARTITION;
 use crate::operation::{Actor, Operation, Put};
@@ -18,10 +18,10 @@ pub struct Case<'a> {
     pub search: Search,
 }
 
-type Question = fn(&Case) -> bool;
+pub type Question = fn(&Case) -> bool;
 
 /// In the order in which they are asked.
-const QUESTIONS: [(u8, Question); 10] = [
+pub const QUESTIONS: [(u8, Question); 10] = [
     (11, names_exist),
     (12, nothing_twice),
     (13, kinds_fit),
@@ -134,13 +134,19 @@ fn objects_are_there(case: &Case) -> bool {
     named(case).iter().all(|object| usize::from(case.state.object(*object)) == partition)
 }
 
-/// Question 18. A copy into a destination is itself a write transfer, of the value that the source holds now.
+/// Question 18.
 fn transfers_are_described(case: &Case) -> bool {
+    described_by(case, trace::described)
+}
+
+/// The same with the entries given that describe a device's transfers now. A copy into a destination is itself a write
+/// transfer, of the value that the source holds now.
+pub fn described_by(case: &Case, described: fn(&Config, &State, usize) -> Vec<Entry>) -> bool {
     let Some(Actor::Device(device)) = case.operation.actor() else {
         return true;
     };
     let transfers = match case.operation {
-        Operation::Write { .. } | Operation::Read { .. } => trace::described(case.config, case.state, device),
+        Operation::Write { .. } | Operation::Read { .. } => described(case.config, case.state, device),
         _ => return true,
     };
     let read = |object: usize| transfers.iter().any(|entry| entry.object == object && entry.reads());

@@ -5,7 +5,7 @@
 mod common;
 
 use common::book::Book;
-use reference::closure::{Closure, Search, closure, one_round};
+use reference::closure::{Closure, Search, closure, limited};
 use reference::config::{Config, Entry, Kind};
 use reference::fresh;
 use reference::gate::operate_with;
@@ -142,7 +142,7 @@ fn traces_stay_in_their_partitions() {
 
 #[test]
 fn one_round_is_caught() {
-    let fault = trial(one_round, 0..400).expect_err("a search of one round must be caught");
+    let fault = trial(limited::<1>, 0..400).expect_err("a search of one round must be caught");
     println!("{fault}");
     assert!(fault.contains("touches object"));
 }

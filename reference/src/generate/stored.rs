@@ -76,6 +76,19 @@ impl Stored {
     }
 }
 
+/// The cases of an input; nothing if it does not end with a case.
+pub fn cases(mut input: &[u8]) -> Option<Vec<Folder>> {
+    let mut list = Vec::new();
+    while !input.is_empty() {
+        let (lengths, rest) = input.split_at_checked(4)?;
+        let (line, rest) = rest.split_at_checked(usize::from(u16::from_le_bytes([lengths[0], lengths[1]])))?;
+        let (session, rest) = rest.split_at_checked(usize::from(u16::from_le_bytes([lengths[2], lengths[3]])))?;
+        list.push(Folder { line: line.to_vec(), session: session.to_vec() });
+        input = rest;
+    }
+    Some(list)
+}
+
 /// `count` cases in at most `bytes` bytes of input: corners first, then generated ones.
 pub fn stored(seed: u64, count: usize, bytes: usize) -> Stored {
     let mut stored = Stored::default();

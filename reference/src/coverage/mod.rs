@@ -1,0 +1,188 @@
+//! What stored cases show: chains of every length, refusals that are easy to miss, and for each fault (`faults`) how
+//! many cases notice it. Counted from the cases' bytes alone, whatever made them.
+
+pub mod chains;
+mod least;
+
+use crate::closure::{closure, crosses};
+use crate::config::{Config, load};
+use crate::effect;
+use crate::faults::{self, Fault};
+use crate::gate::judge;
+use crate::generate::Folder;
+use crate::limits::MAX_VALUES;
+use crate::office::next_record;
+use crate::operation::{self, Actor, Operation};
+use crate::state::State;
+use crate::varint::Reader;
+use chains::{Chain, Order, shortest};
+use std::collections::BTreeMap;
+
+/// The longest chain that a configuration has room for: one value is a hardcoded descriptor's, and each link of a
+/// shortest chain reads a value that was not read before.
+pub const LONGEST: usize = MAX_VALUES - 1;
+
+/// Who notices a fault.
+#[derive(Clone, Debug)]
+pub struct Noticed {
+    pub fault: Fault,
+    /// Calls on the right state that get another answer, or leave other bytes, by the right answer.
+    pub calls: BTreeMap<u8, usize>,
+    /// Those of them that get another answer.
+    pub answers: usize,
+    /// Cases whose text differs, carried on with the faulty judge.
+    pub cases: usize,
+}
+
+/// All counts.
+#[derive(Clone, Debug)]
+pub struct Coverage {
+    pub cases: usize,
+    pub calls: usize,
+    /// Chains to an entry that crosses (document 01: is outside), by order and length. A chain of one has no order.
+    pub crossing: BTreeMap<(usize, Option<Order>), usize>,
+    /// Chains to an entry that names what leaves, by length.
+    pub leaving: BTreeMap<usize, usize>,
+    /// Refusals by 19 of codes 1 and 3, and by 20 of codes 10, 11 and 12.
+    pub refused: BTreeMap<(u8, usize), usize>,
+    /// Calls that the closure judges in one way and the search for the shortest chain in the other.
+    pub contradictions: usize,
+    pub noticed: Vec<Noticed>,
+}
+
+/// A call on the right state, and what came of it.
+struct Call<'a> {
+    record: &'a [u8],
+    before: State,
+    number: u8,
+    after: State,
+}
+
+impl Coverage {
+    pub fn of(cases: &[Folder]) -> Coverage {
+        let noticed =
+            faults::all().into_iter().map(|fault| Noticed { fault, calls: BTreeMap::new(), answers: 0, cases: 0 });
+        let mut coverage = Coverage {
+            cases: cases.len(),
+            calls: 0,
+            crossing: BTreeMap::new(),
+            leaving: BTreeMap::new(),
+            refused: BTreeMap::new(),
+            contradictions: 0,
+            noticed: noticed.collect(),
+        };
+        for case in cases {
+            if let Ok(config) = load(&case.line) {
+                coverage.count(&config, &calls(&config, &case.session));
+            }
+        }
+        coverage
+    }
+
+    fn count(&mut self, config: &Config, calls: &[Call]) {
+        self.calls += calls.len();
+        for call in calls {
+            self.count_chain(config, call);
+        }
+        for noticed in &mut self.noticed {
+            noticed.count(config, calls);
+        }
+    }
+
+    /// The chain behind a refusal by 19 or 20; there is none behind any other call that these questions were put to.
+    fn count_chain(&mut self, config: &Config, call: &Call) {
+        let Some(operation) = operation::read(call.record).filter(|_| matches!(call.number, 0 | 19 | 20)) else {
+            return;
+        };
+        let chain = match operation.code() {
+            1 | 3 => chain_to_crossing(config, &call.before, &operation),
+            10..=12 => chain_to_leaving(config, &call.before, &operation),
+            _ => None,
+        };
+        self.contradictions += usize::from(chain.is_some() != (call.number != 0));
+        if call.number != 0 {
+            *self.refused.entry((call.number, operation.code())).or_default() += 1;
+        }
+        match (chain, call.number) {
+            (Some(chain), 19) => *self.crossing.entry((chain.length, chain.order())).or_default() += 1,
+            (Some(chain), 20) => *self.leaving.entry(chain.length).or_default() += 1,
+            _ => (),
+        }
+    }
+}
+
+/// The calls of a session, each on the state that the plain judge has made.
+fn calls<'a>(config: &Config, session: &'a [u8]) -> Vec<Call<'a>> {
+    let mut reader = Reader::new(session);
+    let mut before = State::fresh(config);
+    let mut list = Vec::new();
+    while let Some(record) = next_record(&mut reader) {
+        let (number, after) = match judge(closure, config, &before, record) {
+            Ok((next, _)) => (0, next),
+            Err(number) => (number, before.clone()),
+        };
+        list.push(Call { record, before, number, after: after.clone() });
+        before = after;
+    }
+    list
+}
+
+fn chain_to_crossing(config: &Config, before: &State, operation: &Operation) -> Option<Chain> {
+    let next = effect::apply(config, before, operation);
+    shortest(config, &next, |device, entry| crosses(config, &next, device, entry))
+}
+
+fn chain_to_leaving(config: &Config, before: &State, operation: &Operation) -> Option<Chain> {
+    let concerned = effect::concerned(config, operation);
+    shortest(config, before, |device, entry| {
+        operation.actor() != Some(Actor::Device(device)) && concerned.contains(&entry.object)
+    })
+}
+
+impl Noticed {
+    fn count(&mut self, config: &Config, calls: &[Call]) {
+        let mut first_answer = None;
+        let mut first_state = None;
+        for (place, call) in calls.iter().enumerate() {
+            if !self.fault.can_touch(call.record, call.number) {
+                continue;
+            }
+            let (number, after) = outcome(&self.fault, config, &call.before, call.record);
+            if number != call.number {
+                self.answers += 1;
+                first_answer.get_or_insert(place);
+            } else if after != call.after {
+                first_state.get_or_insert(place);
+            } else {
+                continue;
+            }
+            *self.calls.entry(call.number).or_default() += 1;
+        }
+        // Up to the first call that leaves other bytes, the faulty judge has the right state.
+        let noticed = match (first_answer, first_state) {
+            (answer, Some(state)) if answer.is_none_or(|answer| state < answer) => {
+                self.is_noticed_from(config, &calls[state..])
+            }
+            (answer, _) => answer.is_some(),
+        };
+        self.cases += usize::from(noticed);
+    }
+
+    /// Whether some answer differs when the faulty judge carries its own state on.
+    fn is_noticed_from(&self, config: &Config, calls: &[Call]) -> bool {
+        let mut state = calls[0].before.clone();
+        calls.iter().any(|call| {
+            let (number, after) = outcome(&self.fault, config, &state, call.record);
+            state = after;
+            number != call.number
+        })
+    }
+}
+
+/// The faulty judge's answer and the state that it leaves.
+fn outcome(fault: &Fault, config: &Config, state: &State, record: &[u8]) -> (u8, State) {
+    match faults::judge(fault, config, state, record) {
+        Ok((next, _)) => (0, next),
+        Err(number) => (number, state.clone()),
+    }
+}

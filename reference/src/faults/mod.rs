@@ -1,0 +1,161 @@
+//! Judges that are faulty on purpose, each in one point. What is judged right by all of them tells nothing about that
+//! point: `coverage` counts the sessions that notice each. The plain judge knows nothing of this module.
+
+mod answers;
+mod searches;
+
+use crate::closure::{Search, closure, limited};
+use crate::config::Config;
+use crate::effect;
+use crate::gate::Judgement;
+use crate::operation::{self, Operation};
+use crate::questions::{Case, QUESTIONS, Question};
+use crate::state::State;
+
+/// What makes the state that follows.
+type Apply = fn(&Config, &State, &Operation) -> State;
+
+/// One fault: what stands in the place of the papers' rule.
+#[derive(Clone, Copy, Debug)]
+pub struct Fault {
+    pub name: &'static str,
+    /// The codes of operations that this fault can touch, and the right answers that it can turn into another, or at
+    /// which it can store something else. A search that finds less than there is, for instance, passes what should be
+    /// refused and never refuses what should pass.
+    pub codes: &'static [usize],
+    pub touches: &'static [u8],
+    search: Search,
+    instead: Option<(u8, Question)>,
+    apply: Apply,
+}
+
+/// No fault: where each of those below begins.
+const NONE: Fault = Fault { name: "", codes: &[], touches: &[], search: closure, instead: None, apply: effect::apply };
+
+const fn search(name: &'static str, search: Search) -> Fault {
+    Fault { name, codes: &[1, 3, 10, 11, 12], touches: &[19, 20], search, ..NONE }
+}
+
+/// Question 18 put wrongly: it passes what it should refuse (18), or the other way round (0).
+const fn eighteen(name: &'static str, touches: &'static [u8], question: Question) -> Fault {
+    Fault { name, codes: &[2, 4], touches, instead: Some((18, question)), ..NONE }
+}
+
+/// Faults of the closure (document 01: reach): they find less.
+const SEARCHES: [Fault; 20] = [
+    search("closure of 2 rounds", limited::<2>),
+    search("closure of 5 rounds", limited::<5>),
+    search("closure of 9 rounds", limited::<9>),
+    search("closure of 16 rounds", limited::<16>),
+    search("closure of 2 sweeps by rising number", searches::rising::<2>),
+    search("closure of 5 sweeps by rising number", searches::rising::<5>),
+    search("closure of 9 sweeps by rising number", searches::rising::<9>),
+    search("closure of 16 sweeps by rising number", searches::rising::<16>),
+    search("closure of 2 sweeps by falling number", searches::falling::<2>),
+    search("closure of 5 sweeps by falling number", searches::falling::<5>),
+    search("closure of 9 sweeps by falling number", searches::falling::<9>),
+    search("closure of 16 sweeps by falling number", searches::falling::<16>),
+    search("whole descriptor states for pairs", searches::whole_states),
+    search("each device collects for itself", searches::each_alone),
+    search("one pair kept for each descriptor", searches::one_pair_each),
+    search("closure: mode 1 is no read", searches::taken_as::<1, 0>),
+    search("closure: mode 1 is no read in kind 1", searches::mode_1_reads_in_hardcoded_only),
+    search("closure: mode 2 is no write", searches::taken_as::<2, 0>),
+    search("closure: mode 3 is no read", searches::taken_as::<3, 2>),
+    search("closure: mode 3 is no write", searches::taken_as::<3, 1>),
+];
+
+/// Faults of question 18.
+const DESCRIBED: [Fault; 11] = [
+    eighteen("18 looks one step far", &[0], answers::near::<1>),
+    eighteen("18 looks two steps far", &[0], answers::near::<2>),
+    eighteen("18 looks six steps far", &[0], answers::near::<6>),
+    eighteen("18 ignores the stored value of writes", &[18], answers::any_stored_value::<2>),
+    eighteen("18 ignores the stored value of copies", &[18], answers::any_stored_value::<4>),
+    eighteen("18 asks nothing about destinations", &[18], answers::any_destination),
+    eighteen("18 by all values in the closure", &[18], answers::by_closure),
+    eighteen("18: mode 1 is no read", &[0], answers::taken_as::<1, 0>),
+    eighteen("18: mode 2 is no write", &[0], answers::taken_as::<2, 0>),
+    eighteen("18: mode 3 is no read", &[0], answers::taken_as::<3, 2>),
+    eighteen("18: mode 3 is no write", &[0], answers::taken_as::<3, 1>),
+];
+
+/// Faults of questions 19 and 20, and of what is stored.
+const OTHERS: [Fault; 7] = [
+    Fault {
+        name: "19 not put for code 3",
+        codes: &[3],
+        touches: &[19],
+        instead: Some((19, answers::code_3_passes_19)),
+        ..NONE
+    },
+    Fault {
+        name: "19 put on the state before the call",
+        codes: &[1, 3],
+        touches: &[19],
+        instead: Some((19, answers::crosses_before)),
+        ..NONE
+    },
+    Fault {
+        name: "20 put on the state after the call",
+        codes: &[11],
+        touches: &[20],
+        instead: Some((20, answers::leaves_after)),
+        ..NONE
+    },
+    Fault {
+        name: "20 counts the leaving device's entries",
+        codes: &[11],
+        touches: &[0],
+        instead: Some((20, answers::leaves_with_own)),
+        ..NONE
+    },
+    Fault {
+        name: "copies of code 3 done one by one",
+        codes: &[3],
+        touches: &[0, 19],
+        instead: Some((19, answers::crosses_one_by_one)),
+        apply: answers::one_by_one::<3>,
+        ..NONE
+    },
+    Fault {
+        name: "copies of code 4 done one by one",
+        codes: &[4],
+        touches: &[0],
+        apply: answers::one_by_one::<4>,
+        ..NONE
+    },
+    Fault {
+        name: "activation clears nothing",
+        codes: &[7, 8, 9],
+        touches: &[0],
+        apply: answers::nothing_cleared,
+        ..NONE
+    },
+];
+
+/// All faults.
+pub fn all() -> Vec<Fault> {
+    [&SEARCHES[..], &DESCRIBED, &OTHERS].concat()
+}
+
+impl Fault {
+    /// Whether a call with this record and this right answer can go another way by this fault.
+    pub fn can_touch(&self, record: &[u8], right: u8) -> bool {
+        let code = operation::read(record).map(|operation| operation.code());
+        self.touches.contains(&right) && code.is_some_and(|code| self.codes.contains(&code))
+    }
+}
+
+/// Questions 10 to 20 as the faulty judge puts them, for a well formed state.
+pub fn judge(fault: &Fault, config: &Config, state: &State, record: &[u8]) -> Judgement {
+    let operation = operation::read(record).ok_or(10)?;
+    let case = Case { config, state, operation: &operation, search: fault.search };
+    for (number, plain) in QUESTIONS {
+        let question = fault.instead.filter(|(instead, _)| *instead == number).map_or(plain, |(_, question)| question);
+        if !question(&case) {
+            return Err(number);
+        }
+    }
+    Ok(((fault.apply)(config, state, &operation), effect::answers(state, &operation)))
+}
