@@ -1,7 +1,8 @@
 #!/usr/bin/env bash
-# The second implementation beside the proved one: its own tests; the stored sessions are the ones it makes; the proved
-# library gives its answers and leaves its bytes, call by call; the office program prints its text, on generated folders
-# and on bad input. A number as the argument is how many calls are compared (30,000 if none is given).
+# The second implementation beside the proved one: its own tests; the stored sessions are the ones it makes, and show
+# what they must, every fault of its faulty judges among it; the proved library gives its answers and leaves its bytes,
+# call by call; the office program prints its text, on generated folders and on bad input. A number as the argument is
+# how many calls are compared (30,000 if none is given).
 set -euo pipefail
 cd "$(dirname "$0")/.."
 export CARGO_TARGET_DIR=$PWD/target/reference
@@ -18,6 +19,7 @@ reference=$CARGO_TARGET_DIR/release/reference
 cmp "$out/stdin" crates/sessions/stdin
 cmp "$out/stdout" crates/sessions/stdout
 echo "reference: the stored sessions are the ones that it makes"
+"$reference" coverage crates/sessions/stdin
 
 [ -f target/staticlib/libgate.a ] || rt staticlib gate > "$out/log" 2>&1 || { tail -n 20 "$out/log"; exit 1; }
 export GATE_LIB_DIR=$PWD/target/staticlib

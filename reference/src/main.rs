@@ -2,7 +2,7 @@
 
 use reference::coverage::Coverage;
 use reference::generate::sessions::folder;
-use reference::generate::stored::{cases, long, stored};
+use reference::generate::stored::{MOST_INPUT, cases, long, with_drills};
 use reference::generate::{Rng, Size};
 use reference::limits::{LINE_LIMIT, SESSION_LIMIT};
 use reference::report;
@@ -128,7 +128,7 @@ fn generate(options: &Options, out: &Path) -> Result<(), String> {
 /// Writes the stored cases and what must come out, and says on standard error what they show.
 fn sessions(options: &Options, input: &str, expected: &str) -> Result<(), String> {
     let seed = options.number("seed", 1)? as u64;
-    let mut cases = stored(seed, options.number("count", 300)?, options.number("bytes", 120_000)?);
+    let mut cases = with_drills(seed, options.number("count", 300)?, options.number("bytes", 120_000)?);
     if options.word("long").is_some() {
         long().iter().for_each(|folder| cases.push(folder));
     }
@@ -137,7 +137,11 @@ fn sessions(options: &Options, input: &str, expected: &str) -> Result<(), String
     eprint!("{}", cases.tally);
     eprintln!("{} bytes of input, {} of output", cases.input.len(), cases.expected.len());
     let rare = cases.tally.rare(5);
-    if rare.is_empty() { Ok(()) } else { Err(format!("shown fewer than five times: {rare:?}")) }
+    if !rare.is_empty() {
+        return Err(format!("shown fewer than five times: {rare:?}"));
+    }
+    let fits = cases.input.len() <= MOST_INPUT || options.word("long").is_some();
+    if fits { Ok(()) } else { Err(format!("more than the {MOST_INPUT} bytes that stored cases may have")) }
 }
 
 /// Prints what stored cases show; fails if anything is shown less often than it must be.

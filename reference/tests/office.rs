@@ -3,7 +3,8 @@
 mod common;
 
 use common::file_l;
-use reference::generate::stored::{long, stored};
+use reference::generate::drills::POINTS;
+use reference::generate::stored::{MOST_INPUT, long, with_drills};
 use reference::generate::{Rng, Size, sessions::folder};
 use reference::report;
 
@@ -53,9 +54,10 @@ fn lengths_and_cuts() {
 
 #[test]
 fn stored_cases_hold_together() {
-    let cases = stored(1, 300, 120_000);
-    assert_eq!(cases.tally.cases, 300);
-    assert!(cases.input.len() <= 120_000);
+    let cases = with_drills(1, 300, 120_000);
+    let drills: usize = POINTS.iter().map(|(_, count)| count).sum();
+    assert_eq!(cases.tally.cases, 300 + drills);
+    assert!(cases.input.len() <= MOST_INPUT);
     assert_eq!(cases.tally.rare(5), Vec::<usize>::new());
     assert!(cases.tally.cut >= 5 && cases.tally.silent >= 1);
     let mut rest = &cases.input[..];

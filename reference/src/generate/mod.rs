@@ -4,6 +4,7 @@
 pub mod areas;
 pub mod broken;
 pub mod calls;
+pub mod drills;
 pub mod likely;
 pub mod names;
 pub mod records;

@@ -2,6 +2,7 @@
 //! length (two bytes each, lowest first), the line's bytes, the session's bytes. The output expected is, for each case,
 //! the report and a line with a dot.
 
+use super::drills;
 use super::rng::Rng;
 use super::sessions::{Folder, folder};
 use super::worlds::Size;
@@ -29,6 +30,9 @@ pub struct Tally {
     pub long: usize,
     pub silent: usize,
 }
+
+/// The most bytes of input: what the program that is given the stored cases takes in.
+pub const MOST_INPUT: usize = 131_072;
 
 /// What a session can show: files refused by 1 to 6, rows 0 and 10 to 20.
 pub const SHOWN: [usize; 18] = [0, 1, 2, 3, 4, 5, 6, 10, 11, 12, 13, 14, 15, 16, 17, 18, 19, 20];
@@ -87,6 +91,15 @@ pub fn cases(mut input: &[u8]) -> Option<Vec<Folder>> {
         input = rest;
     }
     Some(list)
+}
+
+/// Cases as in `stored`, and the drills behind them.
+pub fn with_drills(seed: u64, count: usize, bytes: usize) -> Stored {
+    let mut stored = stored(seed, count, bytes);
+    for (point, _) in drills::POINTS {
+        drills::stored(seed, point).iter().for_each(|drill| stored.push(&drill.folder()));
+    }
+    stored
 }
 
 /// `count` cases in at most `bytes` bytes of input: corners first, then generated ones.

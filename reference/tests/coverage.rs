@@ -1,0 +1,130 @@
+//! The stored cases show what they must, every fault is noticed, and poorer cases would not do.
+
+mod common;
+
+use common::{file_l, sequence_p};
+use reference::closure::closure;
+use reference::coverage::chains::{Chain, Order, shortest};
+use reference::coverage::{Coverage, LONGEST};
+use reference::generate::Folder;
+use reference::generate::drills::{self, POINTS, Point};
+use reference::generate::stored::{cases, stored, with_drills};
+use reference::operation;
+use reference::tokens::row;
+use reference::{closure, effect, faults, gate, load, state::State, varint};
+
+/// The stored cases, with or without the drills.
+fn stored_cases(with: bool) -> Vec<Folder> {
+    let made = if with { with_drills(1, 300, 120_000) } else { stored(1, 300, 120_000) };
+    cases(&made.input).expect("whole cases")
+}
+
+/// The records of a session that is not cut.
+fn records(session: &[u8]) -> Vec<&[u8]> {
+    let mut reader = varint::Reader::new(session);
+    std::iter::from_fn(|| reference::office::next_record(&mut reader)).collect()
+}
+
+#[test]
+fn stored_cases_show_what_they_must() {
+    let coverage = Coverage::of(&stored_cases(true));
+    print!("{coverage}");
+    assert_eq!(coverage.missing(), Vec::<String>::new());
+}
+
+/// The random cases alone would not do.
+#[test]
+fn without_drills_something_is_missing() {
+    let missing = Coverage::of(&stored_cases(false)).missing();
+    for part in [
+        "Rising chains",
+        "Falling chains",
+        "Level chains",
+        "Shuffled chains",
+        "to what leaves",
+        "refusals by 19 of code 3",
+        "refusals by 20 of code 12",
+        "'closure of 16 rounds'",
+        "'whole descriptor states for pairs'",
+        "'19 not put for code 3'",
+        "'20 put on the state after the call'",
+        "'18 looks one step far'",
+        "'18 ignores the stored value of writes'",
+        "'copies of code 3 done one by one'",
+    ] {
+        assert!(missing.iter().any(|row| row.contains(part)), "{part}");
+    }
+}
+
+/// Cases cut off at the end are no cases.
+#[test]
+fn cut_cases_are_not_read() {
+    let made = stored(1, 30, 12_000);
+    assert_eq!(cases(&made.input).map(|list| list.len()), Some(30));
+    assert_eq!(cases(&made.input[..made.input.len() - 1]), None);
+    assert_eq!(cases(&[made.input, vec![0, 0, 0]].concat()), None);
+}
+
+/// A fault changes only what its row says it touches, so that nothing else has to be judged by it.
+#[test]
+fn faults_touch_what_they_say() {
+    for case in stored_cases(true).iter().step_by(11) {
+        let Ok(config) = load(&case.line) else { continue };
+        let mut state = State::fresh(&config);
+        for record in records(&case.session) {
+            let right = gate::judge(closure, &config, &state, record);
+            let number = right.as_ref().err().copied().unwrap_or(0);
+            for fault in faults::all().iter().filter(|fault| !fault.can_touch(record, number)) {
+                assert_eq!(faults::judge(fault, &config, &state, record), right, "{}", fault.name);
+            }
+            state = right.map_or(state, |(next, _)| next);
+        }
+    }
+}
+
+/// The chain that document 01 calls a chain of two, and the one before it.
+#[test]
+fn chains_are_counted_as_the_paper_counts_them() {
+    let config = load(&file_l()).expect("L is sound");
+    let mut state = State::fresh(&config);
+    let mut lengths = Vec::new();
+    for (numbers, answer) in sequence_p() {
+        let record = row(&numbers);
+        let operation = operation::read(&record).expect("P is readable");
+        if answer == 19 {
+            let next = effect::apply(&config, &state, &operation);
+            let chain = shortest(&config, &next, |device, entry| closure::crosses(&config, &next, device, entry));
+            lengths.push(chain.map(|chain| (chain.length, chain.order())));
+        }
+        state = gate::judge(closure, &config, &state, &record).map_or(state, |(next, _)| next);
+    }
+    assert_eq!(lengths, [Some((1, None)), Some((2, Some(Order::Level)))]);
+}
+
+#[test]
+fn chains_are_told_by_their_order() {
+    let order = |descriptors: &[usize]| Chain { length: 1, descriptors: descriptors.to_vec() }.order();
+    assert_eq!(order(&[7]), None);
+    assert_eq!(order(&[2, 5, 6]), Some(Order::Rising));
+    assert_eq!(order(&[6, 5, 2]), Some(Order::Falling));
+    assert_eq!(order(&[5, 5, 5]), Some(Order::Level));
+    assert_eq!(order(&[2, 6, 5]), Some(Order::Shuffled));
+    assert_eq!(order(&[2, 5, 5]), Some(Order::Shuffled));
+}
+
+/// Every drill's file is sound, and those for chains of writes run through all lengths.
+#[test]
+fn drills_are_sound() {
+    for (point, count) in POINTS {
+        let made = drills::stored(1, point);
+        assert_eq!(made.len(), count);
+        for drill in &made {
+            assert_eq!(load(&drill.world.line).as_ref(), Ok(&drill.world.config), "{point:?}");
+        }
+        if point == Point::CrossingByWrite {
+            let coverage = Coverage::of(&made.iter().map(|drill| drill.folder()).collect::<Vec<_>>());
+            let lengths = coverage.crossing.keys().map(|(length, _)| *length);
+            assert_eq!(lengths.collect::<std::collections::BTreeSet<_>>(), (1..=LONGEST).collect());
+        }
+    }
+}
