@@ -1,8 +1,9 @@
 //! A stream of calls of the three functions: sessions with the state carried on, and between their calls others with
-//! malformed files, areas and records, which carry nothing on.
+//! malformed files, areas and records, which carry nothing on. Some sessions begin with a drill.
 
 use super::areas;
 use super::broken;
+use super::drills;
 use super::records::{self, Want};
 use super::rng::Rng;
 use super::worlds::{Size, World, world};
@@ -36,6 +37,8 @@ pub struct Calls {
     world: World,
     state: Vec<u8>,
     queue: VecDeque<Call>,
+    /// The records of a drill that are still to come.
+    drill: VecDeque<Vec<u8>>,
     operations: usize,
     pub sessions: u64,
 }
@@ -44,7 +47,8 @@ impl Calls {
     pub fn new(seed: u64) -> Calls {
         let mut rng = Rng::part(seed, 0);
         let world = world(&mut rng, Size::Tiny);
-        Calls { rng, world, state: Vec::new(), queue: VecDeque::new(), operations: 0, sessions: 0 }
+        let (queue, drill) = (VecDeque::new(), VecDeque::new());
+        Calls { rng, world, state: Vec::new(), queue, drill, operations: 0, sessions: 0 }
     }
 
     /// The next call; the state that it leaves comes back by `carry`.
@@ -70,9 +74,14 @@ impl Calls {
     /// A new session: the file is checked, broken and made fresh.
     fn begin(&mut self) {
         self.sessions += 1;
-        let size = Size::any(&mut self.rng);
-        self.world = world(&mut self.rng, size);
-        self.operations = self.rng.between(5, 70) + self.world.config.objects.len();
+        if self.rng.percent(5) {
+            let drill = drills::any(&mut self.rng);
+            (self.world, self.drill) = (drill.world, drill.records.into());
+        } else {
+            let size = Size::any(&mut self.rng);
+            self.world = world(&mut self.rng, size);
+        }
+        self.operations = self.drill.len() + self.rng.between(5, 70) + self.world.config.objects.len();
         let line = self.world.line.clone();
         let check = self.call(Function::LoadCheck, line.clone());
         self.queue.push_back(check);
@@ -112,14 +121,17 @@ impl Calls {
         area
     }
 
-    /// An operation: the session's next one, or one beside it.
+    /// An operation: the drill's or session's next one, or one beside it.
     fn operation(&mut self) -> Call {
         let area = self.state.clone();
         let state = State::from_bytes(&area).unwrap_or_else(|| State::fresh(&self.world.config));
-        let want = Want::any(&mut self.rng);
-        let record = records::record(&mut self.rng, &self.world, &state, want);
         let line = self.world.line.clone();
         let answer = self.answer();
+        if let Some(record) = self.drill.pop_front() {
+            return Call { function: Function::Operate, line, state: area, record, answer, carried: true };
+        }
+        let want = Want::any(&mut self.rng);
+        let record = records::record(&mut self.rng, &self.world, &state, want);
         let mut call = Call { function: Function::Operate, line, state: area, record, answer, carried: false };
         match self.rng.weighted(&[80, 3, 3, 6, 8]) {
             0 => call.carried = true,
