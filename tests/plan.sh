@@ -1,14 +1,13 @@
 #!/usr/bin/env bash
 # The planner's tool: compiled with warnings as errors, then tested with the answers of the office program. With names,
-# as in `bash tests/plan.sh test_chains`, only these tests. GOLDEN=write stores what is made as what is expected.
+# as in `bash tests/plan.sh test_chains`, only these tests. `bash tests/plan.sh --write` stores what is made as what is
+# expected; that is no test, and nothing else does it.
 set -euo pipefail
 cd "$(dirname "$0")/.."
 out=$(mktemp -d)
 trap 'rm -rf "$out"' EXIT
-export PYTHONPYCACHEPREFIX="$out" PYTHONPATH="$PWD/tools:$PWD/tests/plan"
+# The program that is tried is the repository's own.
+unset KOLLUWAR_OFFICE
+export PYTHONPYCACHEPREFIX="$out" PYTHONPATH="$PWD/tools:$PWD/tests:$PWD/tests/plan"
 python3 -W error -m compileall -q tools/planner tests/plan
-if [ $# -gt 0 ]; then
-    python3 -W error -m unittest "$@"
-else
-    python3 -W error -m unittest discover -s tests/plan
-fi
+python3 -W error tests/plan/run.py "$@"

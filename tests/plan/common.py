@@ -13,6 +13,8 @@ from planner.cli import main
 ROOT = Path(__file__).resolve().parents[2]
 GOLDEN = Path(__file__).resolve().parent / "golden"
 PROGRAM = office.find_office()
+# Whether what is made is stored as what is expected: for run.py --write to say, and for nobody else.
+WRITE = False
 
 
 def plan(*arguments):
@@ -38,18 +40,19 @@ class InFolder(unittest.TestCase):
         self.visit = Path("examples/visit")
 
     def same_as_golden(self, name, text):
-        """Compares with a golden file; GOLDEN=write makes it anew."""
-        path = GOLDEN / name
-        if os.environ.get("GOLDEN") == "write":
-            path.write_text(text, encoding="utf-8")
-        self.assertEqual(path.read_text(encoding="utf-8"), text, f"differs from {path.name}")
+        """Compares with a golden file."""
+        self.same_as_stored(GOLDEN / name, text.encode(), f"differs from {name}")
 
     def same_as_example(self, name, made):
-        """Compares with a file of examples/visit as it is stored; GOLDEN=write stores what is made."""
-        path = ROOT / "examples" / "visit" / name
-        if os.environ.get("GOLDEN") == "write":
+        """Compares with a file of examples/visit as it is stored."""
+        self.same_as_stored(ROOT / "examples" / "visit" / name, made, f"examples/visit/{name} is not what is made")
+
+    def same_as_stored(self, path, made, message):
+        """Compares bytes with a file of the repository."""
+        if WRITE:
             path.write_bytes(made)
-        self.assertEqual(path.read_bytes(), made, f"examples/visit/{name} is not what the tables make")
+        self.assertEqual(path.read_bytes().decode(errors="replace"), made.decode(errors="replace"), message)
+        self.assertEqual(path.read_bytes(), made, message)
 
     def edit(self, name, old, new):
         """Changes a table of the copy; the text to change must be there."""

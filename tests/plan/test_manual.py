@@ -1,7 +1,7 @@
 """docs/PLANNER.md is true: its tables are put down, its commands typed as written, and they print what it shows.
 
 A line with nothing but a file's name in backquotes and a `csv` block below it is a table; a `console` block is a
-command after `$ ` and its output. GOLDEN=write puts the real output there.
+command after `$ ` and its output.
 """
 import os
 import re
@@ -35,9 +35,7 @@ class Manual(InFolder):
             end = block.end("out")
         self.assertGreater(len(parts), 14)
         real = "".join(parts) + text[end:]
-        if os.environ.get("GOLDEN") == "write":
-            MANUAL.write_text(real, encoding="utf-8")
-        self.assertEqual(MANUAL.read_text(encoding="utf-8"), real)
+        self.same_as_stored(MANUAL, real.encode(), "docs/PLANNER.md shows other output")
 
     def test_statuses_are_those_of_the_help(self):
         Path("tools").symlink_to(ROOT / "tools")
