@@ -4,7 +4,7 @@ import shlex
 import sys
 from pathlib import Path
 
-from . import office, unpack
+from . import files, office, unpack
 from . import wording as w
 from .chain import BrokenChain
 from .config import Config
@@ -71,10 +71,10 @@ def parser():
     return top
 
 
-def load(options, keep=False):
+def load(options):
     if not options.dir.is_dir():
         raise UsageError(f"{options.dir} is not a folder")
-    return judge_folder(office.find_office(options.office), options.dir, keep)
+    return judge_folder(office.find_office(options.office), options.dir)
 
 
 def judged(plan):
@@ -100,7 +100,10 @@ def run_new(options):
 
 
 def run_check(options):
-    plan = load(options, keep=True)
+    """The files of an earlier check go first: whatever ends this one, they are not judged for today's tables."""
+    files.clear(options.dir)
+    plan = load(options)
+    files.store(options.dir, plan.line, plan.session)
     print("\n".join(check_lines(plan, f"{options.tool} explain {shlex.quote(str(options.dir))}")))
     whole = plan.verdict.too_long or plan.verdict.refused_line
     return REFUSED if whole or any(not step.accepted for step in plan.steps) else DONE

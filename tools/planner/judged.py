@@ -1,6 +1,5 @@
 """A folder's plan, made into files and judged by the program: each move with its answer and the states around it."""
 from dataclasses import dataclass
-from pathlib import Path
 
 from . import book, office, pack, reasons
 from . import wording as w
@@ -50,18 +49,18 @@ class Plan:
         return self.steps[-1].after if self.steps else book.fresh(self.config)
 
 
-def judge_folder(program, folder, keep=False):
-    """Reads a folder's tables and has the program judge them; with `keep` line.bin and session.bin stay there."""
+def judge_folder(program, folder):
+    """Reads a folder's tables and has the program judge them; nothing is written there."""
     line = read_line(folder)
     table = open_tables(folder, ["visit.csv"])["visit.csv"]
     moves = read_visit(line, table.rows)
-    return judge_moves(program, line.config, moves, Path(folder) if keep else None, table)
+    return judge_moves(program, line.config, moves, table)
 
 
-def judge_moves(program, config, moves, folder=None, table=None):
+def judge_moves(program, config, moves, table=None):
     """Has the program judge moves on a configuration."""
     line, session = pack.line_bytes(config), pack.session_bytes(moves)
-    verdict = office.judge(program, line, session, folder)
+    verdict = office.judge(program, line, session)
     judged = not (verdict.too_long or verdict.refused_line)
     if judged and (verdict.cut or len(verdict.answers) != len(moves)):
         raise office.OfficeError(f"the office program answered {len(verdict.answers)} of {len(moves)} moves")
