@@ -2,8 +2,9 @@
 
     python3 tests/office.py OFFICE REFERENCE
 
-The folders: generated ones of every size, and bad input (absent, empty, too long and unreadable files; sessions cut in a
-length, in a record, after a row; lengths of 0, 127, 128 and 65,535). `judge` is tried on what a person gets wrong.
+The folders: generated ones of every size, and bad input (absent, empty, too long and unreadable files; sessions cut in
+a length, in a record, after a row; lengths of 0, 127, 128 and 65,535). `judge` is tried on what a person gets wrong,
+and with programs that fail (tests/broken.py), of which it must say that nothing is judged.
 """
 import os
 import pathlib
@@ -12,11 +13,14 @@ import subprocess
 import sys
 import tempfile
 
-LINE_L = bytes([1, 2, 2, 6, 5, 4, 2, 1, 1, 2, 1, 4, 2, 2, 1, 2, 2, 3, 0, 0, 3, 1, 1, 1, 2,
-                1, 2, 1, 0, 1, 4, 1, 0, 1, 5, 2, 0, 1, 4, 2, 3, 1, 2, 2, 4])
+import broken
+
+HOME = pathlib.Path(__file__).resolve().parent.parent
+LINE_L = (HOME / "crates" / "office" / "data" / "line.bin").read_bytes()
 MOST_LINE = 4096
 MOST_SESSION = 32768
 ROW = bytes([2, 5, 1])
+THREE_ROWS, THREE_ACCEPTED = bytes([2, 5, 1, 2, 5, 2, 2, 5, 3]), b"1 0\n2 0\n3 0\n"
 
 # A name, line.bin and session.bin (None: no such file), and what must be printed where the papers say it outright.
 CASES = [
@@ -86,7 +90,7 @@ def try_generated(root, office, reference):
     count = 0
     for size in ("tiny", "small", "medium", "deep", "full"):
         folder = root / size
-        run([reference, "generate", "--seed", "5", "--count", "12", "--records", "60", "--size", size, str(folder)], root)
+        run([reference, "generate", "--seed", "5", "--count", "12", "--records", "60", "--size", size, folder], root)
         for each in sorted(folder.iterdir()):
             compare(str(each.name), each, office, reference, (each / "expected.txt").read_bytes())
             count += 1
@@ -95,46 +99,96 @@ def try_generated(root, office, reference):
 
 def try_judge(root, judge):
     """Exit status and messages of `judge`."""
-    accepted, refused = root / "accepted", root / "refused"
-    for folder, session in ((accepted, ROW), (refused, ROW + ROW)):
+    accepted, refused, cut = root / "accepted", root / "refused", root / "cut"
+    for folder, session in ((accepted, THREE_ROWS), (refused, ROW + ROW), (cut, ROW + ROW[:1])):
         folder.mkdir()
         write_case(folder, LINE_L, session)
     empty = root / "empty"
     empty.mkdir()
     for words, status, out, err in (
-        ([judge, str(accepted)], 0, b"1 0\n", ""),
+        ([judge, str(accepted)], 0, THREE_ACCEPTED, ""),
         ([judge, str(refused)], 1, b"1 0\n2 14\n", ""),
+        ([judge, str(cut)], 1, b"1 0\ncut\n", ""),
         ([judge, str(empty)], 2, b"", "has no line.bin"),
         ([judge, str(root / "nowhere")], 2, b"", "there is no folder"),
         ([judge, "a", "b"], 2, b"", "one folder at most"),
     ):
         expect(words, status, out, err)
     # A copy with nothing built, where the toolchain is not on the path.
-    bare = root / "bare"
-    (bare / "crates").mkdir(parents=True)
-    (bare / "crates.txt").touch()
-    shutil.copy(judge, bare / "judge")
+    bare = house(root / "bare", judge)
     expect([str(bare / "judge"), str(accepted)], 2, b"", "'rt' of the Rattle toolchain is not installed",
            {"PATH": "/usr/bin:/bin"})
+
+
+def house(place, judge):
+    """A copy of `judge` in a tree of its own, in which the test says what target/bin/office is."""
+    (place / "crates").mkdir(parents=True)
+    (place / "target" / "bin").mkdir(parents=True)
+    (place / "crates.txt").touch()
+    (place / "tools").symlink_to(pathlib.Path(judge).parent / "tools")
+    shutil.copy(judge, place / "judge")
+    return place
+
+
+def try_broken(root, judge, office):
+    """Every program that fails, on a session that is accepted: nothing is printed, a message says why, status 2."""
+    place, programs = house(root / "house", judge), root / "programs"
+    programs.mkdir()
+    words, target = [str(place / "judge"), str(root / "accepted")], place / "target" / "bin" / "office"
+    shutil.copy(office, target)
+    expect(words, 0, THREE_ACCEPTED, "")
+    count = 0
+    for _, path, message in broken.programs(programs, pathlib.Path(office)):
+        shutil.copy(path, target)
+        expect(words, 2, b"", message if message != str(path) else str(target))
+        count += 1
+    # What looks at the text is cut itself.
+    shutil.copy(office, target)
+    (place / "tools").unlink()
+    (place / "tools").mkdir()
+    expect(words, 2, b"", "tools/office")
+    (place / "tools" / "office").touch()
+    expect(words, 2, b"", "tools/office ended with status 0: nothing is judged")
+    return count
+
+
+def try_surroundings(root, judge):
+    """Output that cannot be written, too little stack for the program, no Python, no way to tell what is newer."""
+    accepted = str(root / "accepted")
+    for words in ('> /dev/full', '>&-', '| true; exit "${PIPESTATUS[0]}"'):
+        expect(["bash", "-c", f'"$0" "$1" {words}', judge, accepted], 2, b"", "the answers cannot be written")
+    for kilobytes, status, out in ((128, 2, b""), (8192, 0, THREE_ACCEPTED)):
+        expect(["bash", "-c", f'ulimit -s {kilobytes}; exec "$0" "$1"', judge, accepted], status, out,
+               "nothing is judged" if status else "")
+    for missing, message in (("python3", "'python3' is not installed"), ("find", "'rt' of the Rattle toolchain")):
+        few = root / f"no-{missing}"
+        few.mkdir()
+        for name in {"bash", "dirname", "find", "python3"} - {missing}:
+            (few / name).symlink_to(shutil.which(name))
+        expect([judge, accepted], 2, b"", message, {"PATH": str(few)})
 
 
 def expect(words, status, out, err, env=None):
     """Exit status, what is printed, and a part of the message."""
     done = subprocess.run(words, capture_output=True, timeout=60, env=env)
     if (done.returncode, done.stdout) != (status, out) or err not in done.stderr.decode():
-        sys.exit(f"office.py: {words}: {done.returncode} {done.stdout!r} {done.stderr.decode()!r}")
+        sys.exit(f"office.py: {words}: {done.returncode} {done.stdout!r} {done.stderr.decode()!r}, expected {status} "
+                 f"{out!r} '{err}'")
 
 
 def main():
     """All folders, then `judge`."""
     office, reference = (os.path.abspath(word) for word in sys.argv[1:3])
-    judge = str(pathlib.Path(__file__).resolve().parent.parent / "judge")
+    judge = str(HOME / "judge")
     with tempfile.TemporaryDirectory() as temporary:
         root = pathlib.Path(temporary)
         bad = try_cases(root, office, reference)
         generated = try_generated(root, office, reference)
         try_judge(root, judge)
-    print(f"office: {bad} folders of bad input and {generated} generated ones, as the reference has them")
+        failing = try_broken(root, judge, office)
+        try_surroundings(root, judge)
+    print(f"office: {bad} folders of bad input and {generated} generated ones, as the reference has them; "
+          f"of {failing} programs that fail nothing is judged")
 
 
 if __name__ == "__main__":

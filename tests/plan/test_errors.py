@@ -187,13 +187,6 @@ class Statuses(InFolder):
                           ("import", "nowhere.bin")):
             self.assertEqual(plan(*arguments)[0], 2, arguments)
 
-    def test_program(self):
-        for script in ("exit 3", "echo 1 zero", "echo 1 0; echo cut", "echo 2 0", "true"):
-            Path("office").write_text(f"#!/bin/sh\n{script}\n", encoding="utf-8")
-            Path("office").chmod(0o755)
-            self.assertEqual(plan("--office", "./office", "check", "examples/visit")[0], 4, script)
-        self.assertEqual(plan("--office", "./nothing", "check", "examples/visit")[0], 4)
-
     def test_the_program_of_the_repository(self):
         """Without option and variable `./judge --program` of the repository is asked."""
         shutil.copytree(ROOT / "tools", "house/tools")

@@ -20,7 +20,7 @@ STATUSES = """exit statuses:
   1  a move or the line is refused
   2  the command is not typed as it should be
   3  a table is at fault; file, row and column are named
-  4  the office program is not to be had, or failed
+  4  the office program is not to be had or failed, or its answers are not whole
   5  an answer 19 or 20 could not be explained by a chain that holds"""
 
 
@@ -105,8 +105,7 @@ def run_check(options):
     plan = load(options)
     files.store(options.dir, plan.line, plan.session)
     print("\n".join(check_lines(plan, f"{options.tool} explain {shlex.quote(str(options.dir))}")))
-    whole = plan.verdict.too_long or plan.verdict.refused_line
-    return REFUSED if whole or any(not step.accepted for step in plan.steps) else DONE
+    return DONE if plan.verdict.accepted else REFUSED
 
 
 def run_explain(options):

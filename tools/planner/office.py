@@ -1,17 +1,26 @@
-"""The proved office program, which does all judging: finding it, running it, and taking its rows apart."""
+"""The proved office program, which does all judging: finding it, running it, and taking its text if it is whole.
+
+The text is taken by `./judge` and by the tool alike: a program that crashed, was killed or lost a row judged nothing.
+"""
 import os
+import re
 import subprocess
 import tempfile
 from dataclasses import dataclass
 from pathlib import Path
 
+from . import wording as w
+from .unpack import Reader, Unreadable
+
 LINE, SESSION = "line.bin", "session.bin"
 VARIABLE = "KOLLUWAR_OFFICE"
 SECONDS = 60
+ANSWER = re.compile(rb"^\d+ (\d{1,2})$", re.MULTILINE)
+REFUSED_LINE = re.compile(rb"line ([1-6])\n")
 
 
 class OfficeError(Exception):
-    """The program is not to be had, failed, or printed what document 01 does not know."""
+    """The program is not to be had or failed, or its text is not whole: nothing was judged."""
 
 
 @dataclass(frozen=True)
@@ -21,6 +30,11 @@ class Verdict:
     refused_line: int = 0
     too_long: bool = False
     cut: bool = False
+
+    @property
+    def accepted(self):
+        """Whether every record is."""
+        return not (self.too_long or self.refused_line or self.cut or any(self.answers))
 
 
 def find_office(option=None):
@@ -46,34 +60,61 @@ def built(root):
     return root / done.stdout.strip().splitlines()[-1]
 
 
-def judge(office, line, session, folder=None):
-    """The verdict on the two files, which are put into the folder; without one they are judged in a passing one."""
-    if folder is None:
-        with tempfile.TemporaryDirectory() as passing:
-            return judge(office, line, session, passing)
-    (Path(folder) / LINE).write_bytes(line)
-    (Path(folder) / SESSION).write_bytes(session)
+def judge(office, line, session):
+    """The verdict on the bytes of two files, which are put into a passing folder."""
+    with tempfile.TemporaryDirectory() as passing:
+        (Path(passing) / LINE).write_bytes(line)
+        (Path(passing) / SESSION).write_bytes(session)
+        return parse(run(office, passing), session)
+
+
+def run(office, folder):
+    """What the program prints in a folder. Any end but status 0 is a failure, whatever was printed before."""
     try:
-        done = subprocess.run([str(office)], cwd=folder, capture_output=True, text=True, timeout=SECONDS)
-    except (OSError, subprocess.SubprocessError, UnicodeDecodeError) as fault:
+        done = subprocess.run([str(office)], cwd=folder, capture_output=True, timeout=SECONDS)
+    except (OSError, subprocess.SubprocessError) as fault:
         raise OfficeError(f"{office} could not be run: {fault}") from None
-    if done.returncode != 0:
-        raise OfficeError(f"{office} ended with status {done.returncode}: {done.stderr.strip()}")
-    return parse(done.stdout)
+    if done.returncode < 0:
+        raise OfficeError(f"{office} was ended by signal {-done.returncode}: nothing is judged")
+    if done.returncode > 0:
+        said = done.stderr.decode(errors="replace").strip()
+        raise OfficeError(f"{office} ended with status {done.returncode}: nothing is judged {said}".rstrip())
+    return done.stdout
 
 
-def parse(text):
-    """A verdict from the program's rows."""
-    rows = text.splitlines()
-    if rows == ["long"]:
+def parse(text, session):
+    """The verdict in the program's text, if that is whole by document 01's own rules.
+
+    Whole is `long` alone, `line n` alone, or a row for each record of the session, its place from 1 and its answer,
+    and then `cut` if the session is; and every row has its newline.
+    """
+    if text == b"long\n":
         return Verdict(too_long=True)
-    if len(rows) == 1 and rows[0].startswith("line ") and rows[0][5:].isdigit():
-        return Verdict(refused_line=int(rows[0][5:]))
-    cut = bool(rows) and rows[-1] == "cut"
-    answers = []
-    for place, row in enumerate(rows[:-1] if cut else rows, 1):
-        first, _, second = row.partition(" ")
-        if first != str(place) or not second.isdigit():
-            raise OfficeError(f"the office program printed '{row}' as row {place}")
-        answers.append(int(second))
-    return Verdict(answers=tuple(answers), cut=cut)
+    refused = REFUSED_LINE.fullmatch(text)
+    if refused:
+        return Verdict(refused_line=int(refused[1]))
+    count, cut = records(session)
+    answers = tuple(int(answer) for answer in ANSWER.findall(text))
+    rows = [f"{place} {answer}\n" for place, answer in enumerate(answers, 1)] + ["cut\n"] * cut
+    if text != "".join(rows).encode() or len(answers) != count or max(answers, default=0) > max(w.QUESTIONS):
+        raise OfficeError(f"the office program's text is not whole: {len(text)} bytes for a session of {count} "
+                          f"record{'' if count == 1 else 's'}{' and a cut one' if cut else ''}; nothing is judged")
+    return Verdict(answers=answers, cut=cut)
+
+
+def records(session):
+    """How many whole records a session has, and whether something cut is behind them.
+
+    Document 01, 'Office program': a length is asked questions 1 and 2 only, and a record may not be cut short.
+    """
+    reader, count = Reader(session), 0
+    try:
+        while reader.at < len(session):
+            length = reader.number()
+            if length > w.LIMITS["a number"]:
+                return count, True
+            reader.raw(length)
+            count += 1
+    except Unreadable:
+        return count, True
+    return count, False
