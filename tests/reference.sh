@@ -5,13 +5,12 @@
 # how many calls are compared (30,000 if none is given).
 set -euo pipefail
 cd "$(dirname "$0")/.."
+. tests/rust.sh
 export CARGO_TARGET_DIR=$PWD/target/reference
 out=$(mktemp -d)
 trap 'rm -rf "$out"' EXIT
 
-cargo test --offline --locked --quiet --manifest-path reference/Cargo.toml > "$out/log" 2>&1 ||
-    { tail -n 40 "$out/log"; exit 1; }
-grep -h '^test result' "$out/log" | awk '{ passed += $4; failed += $6 } END { print "reference: " passed " tests passed, " failed " failed" }'
+rust_tests reference reference
 cargo build --offline --locked --quiet --release --manifest-path reference/Cargo.toml
 reference=$CARGO_TARGET_DIR/release/reference
 
@@ -21,7 +20,8 @@ cmp "$out/stdout" crates/sessions/stdout
 echo "reference: the stored sessions are the ones that it makes"
 "$reference" coverage crates/sessions/stdin
 
-[ -f target/staticlib/libgate.a ] || rt staticlib gate > "$out/log" 2>&1 || { tail -n 20 "$out/log"; exit 1; }
+# The archive of today's sources, and no older one that happens to be there.
+make -s lib
 export GATE_LIB_DIR=$PWD/target/staticlib
 cargo build --offline --locked --quiet --release --manifest-path reference/matching/Cargo.toml
 "$CARGO_TARGET_DIR/release/matching" --calls "${1:-30000}"
