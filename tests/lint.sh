@@ -1,11 +1,16 @@
 #!/usr/bin/env bash
-# Layout and warnings of all that is not Rattle: C by clang-format and gcc, Rust by rustfmt and clippy, Python by its
-# compiler, shell scripts by bash. A tool that is not installed is named and left out; a fault ends the script. Needs no
-# network and no built library.
+# Layout and warnings of all that is not Rattle: C by clang-format and gcc, the examples for C++ hosts by g++ too, Rust
+# by rustfmt and clippy, Python by its compiler, shell scripts by bash. A fault ends the script, and so does a tool that
+# is not installed, which is named; with --lenient such a tool is named and left out. Needs no network and no built
+# library.
 set -euo pipefail
 cd "$(dirname "$0")/.."
 out=$(mktemp -d)
 trap 'rm -rf "$out"' EXIT
+case $# in
+0) lenient= ;;
+*) [ "$*" = --lenient ] && lenient=yes || { echo "bash tests/lint.sh [--lenient]" >&2; exit 2; } ;;
+esac
 
 # The files whose names fit the pattern, all if none is given, but nothing that is built.
 files() {
@@ -24,15 +29,29 @@ scripts() {
     done
 }
 
+# A check of no files is none.
+some() {
+    [ "$1" -gt 0 ] && return
+    echo "lint: no $2 are found" >&2
+    exit 1
+}
+
+# Whether a tool is there, told by a command of it that does nothing else.
 at_hand() {
     "$@" > /dev/null 2>&1 && return
-    echo "lint: '$*' fails, so that this tool is left out"
-    return 1
+    if [ -n "$lenient" ]; then
+        echo "lint: '$*' fails, so that this tool is left out"
+        return 1
+    fi
+    echo "lint: '$*' fails: the tool is not installed (--lenient leaves it out)" >&2
+    exit 1
 }
 
 lint_c() {
     mapfile -t sources < <(files '*.c')
     mapfile -t headers < <(files '*.h')
+    some "${#sources[@]}" "C files"
+    some "${#headers[@]}" headers
     if at_hand clang-format --version; then
         clang-format --dry-run -Werror "${sources[@]}" "${headers[@]}"
         echo "lint: the layout of ${#sources[@]} C files and ${#headers[@]} headers"
@@ -41,16 +60,25 @@ lint_c() {
     for file in "${sources[@]}"; do
         gcc -std=c11 -O2 -Wall -Wextra -Werror -Iinclude -Ibench -c -o "$out/object" "$file"
     done
-    # The public header stands alone, in C and in C++.
+    # The public header stands alone.
     gcc -std=c11 -Wall -Wextra -Werror -fsyntax-only -x c include/sorter_gate.h
-    if at_hand g++ --version; then
-        g++ -Wall -Wextra -Werror -fsyntax-only -x c++ include/sorter_gate.h
-    fi
     echo "lint: gcc on ${#sources[@]} C files"
+}
+
+# A host may be in C++: the header alone, and the controllers that it may begin with.
+lint_cpp() {
+    at_hand g++ --version || return 0
+    g++ -Wall -Wextra -Werror -fsyntax-only -x c++ include/sorter_gate.h
+    hosts=(examples/controller/*.c)
+    for file in "${hosts[@]}"; do
+        g++ -O2 -Wall -Wextra -Werror -Iinclude -c -o "$out/object" -x c++ "$file"
+    done
+    echo "lint: g++ on the header and ${#hosts[@]} controllers"
 }
 
 lint_rust() {
     mapfile -t packages < <(files '*Cargo.toml')
+    some "${#packages[@]}" "Rust packages"
     if at_hand cargo fmt --version; then
         for package in "${packages[@]}"; do
             cargo fmt --check --manifest-path "$package"
@@ -72,6 +100,8 @@ lint_rust() {
 lint_scripts() {
     mapfile -t python < <(scripts python py)
     mapfile -t shell < <(scripts bash sh)
+    some "${#python[@]}" "Python files"
+    some "${#shell[@]}" "shell scripts"
     # Compiled in memory, so that no compiled files are left beside the sources.
     python3 -W error -c '
 import sys
@@ -86,5 +116,6 @@ for name in sys.argv[1:]:
 }
 
 lint_c
+lint_cpp
 lint_rust
 lint_scripts

@@ -35,7 +35,7 @@ static int restore(const char *name, uint8_t *state) {
 
 // An empty record changes nothing: 10 says that the line file and the areas are in order, less says what is not.
 static uint32_t look(uint8_t *state, uint8_t *answer) {
-    static const uint8_t nothing[1];
+    static const uint8_t nothing[1] = {0};
     return gate_operate(LINE, sizeof LINE, state, SORTER_GATE_STATE_BYTES, nothing, 0, answer,
                         SORTER_GATE_ANSWER_BYTES);
 }
