@@ -6,7 +6,13 @@
 #   make bench                the tables of docs/PERFORMANCE.md, by callgrind
 #   make clean                remove what this file makes, and nothing that rt keeps
 PREFIX ?= /usr/local
-override PREFIX := $(abspath $(PREFIX))
+given := $(PREFIX)
+# A path may have blanks. make's functions would take it for several, so its blanks are spelled out on the way through.
+empty :=
+blank := $(empty) $(empty)
+joined = $(subst $(blank),<blank>,$(1))
+parted = $(subst <blank>,$(blank),$(1))
+override PREFIX := $(call parted,$(abspath $(call joined,$(PREFIX))))
 LIBDIR ?= $(PREFIX)/lib
 INCLUDEDIR ?= $(PREFIX)/include
 DESTDIR ?=
@@ -15,7 +21,7 @@ VERSION := 0.1.0
 library := target/staticlib/libgate.a
 sources := crates.txt $(shell find crates -name '*.rt' -o -name '*.antt')
 
-.PHONY: all lib install check bench clean
+.PHONY: all lib places install check bench clean
 all: lib
 lib: $(library)
 
@@ -27,14 +33,30 @@ target/staticlib/lib%.a: $(sources)
 	@rt staticlib $* > target/$*.log 2>&1 || { tail -n 20 target/$*.log >&2; exit 1; }
 	@touch $@
 
+# What make, the shell, sed or pkg-config would take for its own is refused before anything is done.
+tab := $(empty)	$(empty)
+hash := \#
+define newline
+
+
+endef
+odd = $(foreach one,' " ` \ | & % $$ $(hash),$(findstring $(one),$(1)))$(foreach one,tab newline,$(if \
+    $(findstring $($(one)),$(1)),$(one)))
+places:
+	$(foreach name,given LIBDIR INCLUDEDIR DESTDIR,$(if $(strip $(call odd,$($(name)))), \
+	    $(error '$($(name))': a place may have blanks, but no tab, no newline and none of ' " ` \ | & % $$ $(hash))))
+
+# A place by the prefix where it is below it.
+below = $(call parted,$(patsubst $(call joined,$(PREFIX))/%,$${prefix}/%,$(call joined,$(1))))
+
 # The pkg-config file names the places without DESTDIR, where the files only wait to be packed, and by its own prefix
 # where they are below it, so that a copied tree needs one line changed.
-install: $(library)
+install: places $(library)
 	install -d "$(DESTDIR)$(LIBDIR)/pkgconfig" "$(DESTDIR)$(INCLUDEDIR)"
 	install -m 644 $(library) "$(DESTDIR)$(LIBDIR)/libgate.a"
 	install -m 644 include/sorter_gate.h "$(DESTDIR)$(INCLUDEDIR)/sorter_gate.h"
-	sed -e 's|@PREFIX@|$(PREFIX)|' -e 's|@LIBDIR@|$(LIBDIR:$(PREFIX)/%=$${prefix}/%)|' \
-	    -e 's|@INCLUDEDIR@|$(INCLUDEDIR:$(PREFIX)/%=$${prefix}/%)|' -e 's|@VERSION@|$(VERSION)|' \
+	sed -e 's|@PREFIX@|$(PREFIX)|' -e 's|@LIBDIR@|$(call below,$(LIBDIR))|' \
+	    -e 's|@INCLUDEDIR@|$(call below,$(INCLUDEDIR))|' -e 's|@VERSION@|$(VERSION)|' \
 	    sorter_gate.pc.in > "$(DESTDIR)$(LIBDIR)/pkgconfig/sorter_gate.pc"
 	chmod 644 "$(DESTDIR)$(LIBDIR)/pkgconfig/sorter_gate.pc"
 

@@ -1,6 +1,7 @@
 #!/usr/bin/env bash
 # Installs the library into a temporary prefix and builds the controller against the installed copy, with pkg-config;
-# then the same below a DESTDIR, whose files must be the same and name the prefix alone.
+# then the same below a DESTDIR, whose files must be the same and name the prefix alone; then both with blanks in their
+# names. Names that would not be taken as they are must be refused, and nothing written.
 set -euo pipefail
 cd "$(dirname "$0")/.."
 out=$(mktemp -d)
@@ -8,19 +9,52 @@ trap 'rm -rf "$out"' EXIT
 # What the caller's environment or an outer make would say about the places.
 unset MAKEFLAGS MFLAGS DESTDIR PREFIX LIBDIR INCLUDEDIR
 
-make -s install PREFIX="$out/prefix"
-export PKG_CONFIG_PATH=$out/prefix/lib/pkgconfig
 # As docs/CONTROLLER.md tells the reader; the repository's own header is not on the path. Both programs end with 1 if an
-# answer is not the one that they expect.
-for name in main restore; do
-    cp "examples/controller/$name.c" "$out"
-    (cd "$out" && gcc -std=c11 -O2 -Wall -Wextra -Werror "$name.c" $(pkg-config --cflags --libs sorter_gate) -o "$name")
-done
-"$out/main" > "$out/rows"
-"$out/restore" "$out/state.bin" >> "$out/rows"
-echo "install: the controllers print $(wc -l < "$out/rows") rows as they should"
+# answer is not the one that they expect. pkg-config writes a blank as the shell reads it, hence the eval.
+controllers() {
+    words=$(PKG_CONFIG_PATH=$1/lib/pkgconfig pkg-config --cflags --libs sorter_gate)
+    for name in main restore; do
+        cp "examples/controller/$name.c" "$out"
+        (cd "$out" && eval "gcc -std=c11 -O2 -Wall -Wextra -Werror $name.c $words -o $name")
+    done
+    "$out/main" > "$out/rows"
+    "$out/restore" "$out/state.bin" >> "$out/rows"
+    echo "install: the controllers print $(wc -l < "$out/rows") rows as they should"
+}
 
-make -s install DESTDIR="$out/stage" PREFIX="$out/prefix"
-diff -r "$out/prefix" "$out/stage$out/prefix"
-grep -q "^prefix=$out/prefix$" "$out/stage$out/prefix/lib/pkgconfig/sorter_gate.pc"
+# install_twice PREFIX STAGE: into the prefix, and below a DESTDIR
+install_twice() {
+    make -s install PREFIX="$1"
+    controllers "$1"
+    make -s install DESTDIR="$2" PREFIX="$1"
+    diff -r "$1" "$2$1"
+    grep -qx "prefix=$1" "$2$1/lib/pkgconfig/sorter_gate.pc"
+    grep -qx "libdir=\${prefix}/lib" "$2$1/lib/pkgconfig/sorter_gate.pc"
+}
+
+install_twice "$out/prefix" "$out/stage"
 echo "install: $(cd "$out/prefix" && find . -type f | sort | tr '\n' ' ')"
+install_twice "$out/a prefix  with blanks" "$out/a stage"
+# The same files, but for the prefix that one of them names.
+sed -i "s|^prefix=.*|prefix=$out/prefix|" "$out/a prefix  with blanks/lib/pkgconfig/sorter_gate.pc"
+diff -r "$out/prefix" "$out/a prefix  with blanks"
+
+# refused NAME: as each of the places
+mkdir "$out/odd"
+refused() {
+    for place in PREFIX LIBDIR INCLUDEDIR DESTDIR; do
+        if make -s install PREFIX="$out/odd/prefix" "$place=$out/odd/$1" > "$out/log" 2>&1 ||
+            ! grep -q 'a place may have blanks, but no' "$out/log"; then
+            echo "install: $place with '$1' is not refused" >&2
+            exit 1
+        fi
+    done
+}
+for name in "it's" 'a"b' 'a`b' 'a\b' 'a|b' 'a&b' 'a%b' 'a$$b' 'a#b' $'a\tb' $'a\nb'; do
+    refused "$name"
+done
+if [ -n "$(ls "$out/odd")" ]; then
+    echo "install: refused, and yet written: $(ls "$out/odd")" >&2
+    exit 1
+fi
+echo "install: blanks in names are taken, and what cannot be is refused"
