@@ -3,7 +3,8 @@
 // byte that is read or written beside an area is seen. A refusal leaves state and answer area as they were, an accepted
 // call leaves what document 01 says; the same inputs get the same answers in both passes; and in each pass every number
 // is answered, every code is accepted and every area is empty at least once.
-//   garbage TIMES SEED   makes TIMES calls in each pass; prints how often each number came, and each code was accepted
+//   garbage TIMES SEED   makes TIMES calls in each pass; prints how often each number came, and each code was accepted;
+//                        to be called in the repository's root
 #include <stdio.h>
 #include <stdlib.h>
 #include <string.h>
@@ -219,6 +220,7 @@ int main(int argc, char **argv) {
         perror("garbage");
         return 2;
     }
+    read_line_l();
     make_areas();
     for (enum place place = ENDS_AT_BORDER; place < PLACES; place++) {
         run_pass(place, times, strtoull(argv[2], NULL, 10), &tallies[place]);

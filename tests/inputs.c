@@ -1,10 +1,20 @@
+#include <stdio.h>
+#include <stdlib.h>
 #include <string.h>
 
+#include "../bench/slurp.h"
 #include "effect.h"
 #include "inputs.h"
 
-static const uint8_t LINE_L[] = {1, 2, 2, 6, 5, 4, 2, 1, 1, 2, 1, 4, 2, 2, 1, 2, 2, 3, 0, 0, 3, 1, 1,
-                                 1, 2, 1, 2, 1, 0, 1, 4, 1, 0, 1, 5, 2, 0, 1, 4, 2, 3, 1, 2, 2, 4};
+// Document 01's file L, read where the repository has it.
+static uint8_t LINE_L[45];
+
+void read_line_l(void) {
+    if (slurp("crates/office/data/line.bin", LINE_L, sizeof LINE_L) != sizeof LINE_L) {
+        fprintf(stderr, "crates/office/data/line.bin is not file L\n");
+        exit(2);
+    }
+}
 
 // What is done on L: a length, then the record.
 static const uint8_t RECORDS_L[][24] = {

@@ -8,6 +8,9 @@
 // No line or record that is made is longer.
 enum { MOST_LINE = 1300, MOST_RECORD = 300 };
 
+// Reads document 01's file L; before any line is made, in the repository's root.
+void read_line_l(void);
+
 void seed_inputs(uint64_t seed);
 
 // A number below n, 0 for n = 0.
