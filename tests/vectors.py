@@ -23,12 +23,9 @@ HOME = TOP / "crates" / "vectors"
 LOAD, FRESH, FORMED, OPERATION, FRESH_SHORT, FRESH_LONG = 1, 2, 3, 4, 5, 6
 
 
-# Document 01's file L, by groups.
-HEAD = [1, 2, 2, 6, 5]
-OBJECTS = [4, 2, 1, 1, 2, 1, 4, 2, 2, 1, 2, 2, 3, 0, 0, 3, 1, 1]
-DEVICES = [1, 2]
-VALUES = [1, 2, 1, 0, 1, 4, 1, 0, 1, 5, 2, 0, 1, 4, 2, 3, 1, 2, 2, 4]
-L = HEAD + OBJECTS + DEVICES + VALUES
+# Document 01's file L, whose numbers have one byte each, by groups.
+L = list((HOME.parent / "office" / "data" / "line.bin").read_bytes())
+HEAD, OBJECTS, DEVICES, VALUES = L[:5], L[5:23], L[23:25], L[25:]
 
 
 def with_numbers(*changes):
