@@ -63,6 +63,7 @@ install: places $(library)
 check: $(library)
 	bash tests/lint.sh
 	bash tests/archive.sh
+	python3 tests/line_l.py
 	bash tests/install.sh
 	python3 bench/stack.py
 	bash tests/bindings.sh

@@ -17,11 +17,11 @@ STATE_BYTES, ANSWER_BYTES = 1728, 128
 # Where the state area has the contents of object 1.
 FIRST_CONTENT = 64 + 16 + 16 + 1
 
-# File L: counts; objects (kind, owner class, owner); hard-wired values; values.
-COUNTS = [1, 2, 2, 6, 5]
-OBJECTS = [[4, 2, 1], [1, 2, 1], [4, 2, 2], [1, 2, 2], [3, 0, 0], [3, 1, 1]]
-HARDWIRED = [1, 2]
-VALUES = [[1, 2, 1, 0], [1, 4, 1, 0], [1, 5, 2, 0], [1, 4, 2, 3], [1, 2, 2, 4]]
+# File L: counts; objects (kind, owner class, owner); hard-wired values; values of one entry.
+L = (HOME.parents[1] / "crates" / "office" / "data" / "line.bin").read_bytes()
+COUNTS, HARDWIRED = list(L[:5]), list(L[23:25])
+OBJECTS = [list(L[at:at + 3]) for at in range(5, 23, 3)]
+VALUES = [list(L[at:at + 4]) for at in range(25, 45, 4)]
 
 
 def line(counts=None, objects=None, hardwired=None, values=None):
@@ -41,7 +41,6 @@ def fresh():
     return area
 
 
-L = line()
 CREATE_1, CREATE_2, DESTROY_1 = [5, 1], [5, 2], [6, 1]
 DRIVER_1_IN, CARD_1_IN, CARD_2_IN, OBJECT_5_IN = [7, 1, 1], [8, 1, 1], [8, 2, 2], [9, 1, 1, 5]
 READY = [CREATE_1, CREATE_2, DRIVER_1_IN, CARD_1_IN, CARD_2_IN, OBJECT_5_IN]

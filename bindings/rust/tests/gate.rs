@@ -3,10 +3,7 @@
 use sorter_gate::{ANSWER_BYTES, Refusal, STATE_BYTES, fresh, load_check, operate};
 use std::error::Error;
 
-const LINE_L: [u8; 45] = [
-    1, 2, 2, 6, 5, 4, 2, 1, 1, 2, 1, 4, 2, 2, 1, 2, 2, 3, 0, 0, 3, 1, 1, 1, 2, 1, 2, 1, 0, 1, 4, 1, 0, 1, 5, 2, 0, 1,
-    4, 2, 3, 1, 2, 2, 4,
-];
+const LINE_L: [u8; 45] = *include_bytes!("../../../crates/office/data/line.bin");
 
 /// Document 01's sequence P, with its answers.
 const SEQUENCE_P: [(&[u8], u8); 16] = [
