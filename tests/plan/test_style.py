@@ -5,8 +5,8 @@ import unittest
 from common import ROOT
 
 COLUMNS, FUNCTION_LINES, MODULE_LINES = 120, 40, 400
-FILES = [ROOT / "tools" / "plan"] + sorted((ROOT / "tools" / "planner").glob("*.py")) + sorted(
-    (ROOT / "tests" / "plan").glob("*.py"))
+FILES = [ROOT / "tools" / "plan", ROOT / "tools" / "office", *sorted((ROOT / "tools" / "planner").glob("*.py")),
+         *sorted((ROOT / "tests" / "plan").glob("*.py"))]
 
 
 def imported(tree):
