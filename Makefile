@@ -61,6 +61,7 @@ install: places $(library)
 	chmod 644 "$(DESTDIR)$(LIBDIR)/pkgconfig/sorter_gate.pc"
 
 check: $(library)
+	python3 tests/tables --check
 	bash tests/lint.sh
 	bash tests/archive.sh
 	python3 tests/line_l.py

@@ -22,6 +22,7 @@ extern "C" {
 #define SORTER_GATE_ANSWER_BYTES 128
 
 /* What a number means: the question that was answered with no. */
+/* begin answers: made by tests/tables from tables/questions.ini */
 enum sorter_gate_answer {
     SORTER_GATE_ACCEPTED = 0,
     SORTER_GATE_NUMBER_CUT = 1,      /* line file: a number's last byte is missing */
@@ -45,6 +46,7 @@ enum sorter_gate_answer {
     SORTER_GATE_OUTSIDE = 19,        /* a chain of descriptor writes would lead a card out of its partition */
     SORTER_GATE_IN_REACH = 20        /* an active card can reach an object that would leave */
 };
+/* end answers */
 
 /*
  * Puts questions 1 to 6 to a line file. Changes nothing.
@@ -58,10 +60,10 @@ uint32_t gate_load_check(const uint8_t *line, size_t line_len);
 uint32_t gate_fresh(const uint8_t *line, size_t line_len, uint8_t *state, size_t state_len);
 
 /*
- * Judges one operation record and, at 0, carries it out: questions 1 to 20, in this order, each for the whole record
- * before the next. At 0 `state` is the state that follows; a read (codes 3 and 4) has put sixteen bytes for each source
- * at the start of `answer`, in order, and every other byte of `answer` is as it was. At any other number both areas are
- * as they were.
+ * Judges one operation record and, at 0, carries it out: all questions, in the order of docs/QUESTIONS.md, each for the
+ * whole record before the next. At 0 `state` is the state that follows; a read (codes 3 and 4) has put sixteen bytes
+ * for each source at the start of `answer`, in order, and every other byte of `answer` is as it was. At any other
+ * number both areas are as they were.
  */
 uint32_t gate_operate(const uint8_t *line, size_t line_len, uint8_t *state, size_t state_len, const uint8_t *record,
                       size_t record_len, uint8_t *answer, size_t answer_len);

@@ -1,6 +1,7 @@
 """The papers' numbers as data: operation codes, questions, kinds, modes and limits, with the planner's words for each.
 
-A new code, question or limit is a row here. Nothing in this module judges anything.
+The rows between `begin` and `end` are made from the repository's tables: a new code, question or limit is a row there.
+Nothing in this module judges anything.
 """
 from dataclasses import dataclass
 
@@ -22,8 +23,20 @@ VALUE_FORM, RAW_FORM = 0, 1
 EDITION = 1
 ACCEPTED = 0
 
-LIMITS = {"drivers": 16, "cards": 16, "objects": 96, "values": 47, "entries of a value": 6, "items of a move": 8,
-          "bytes of line.bin": 4096, "bytes of session.bin": 32768, "partitions": 63, "a number": 65535}
+# begin limits: made by tests/tables from tables/numbers.ini
+LIMITS = {
+    "drivers": 16,
+    "cards": 16,
+    "objects": 96,
+    "values": 47,
+    "entries of a value": 6,
+    "items of a move": 8,
+    "bytes of line.bin": 4096,
+    "bytes of session.bin": 32768,
+    "partitions": 63,
+    "a number": 65535,
+}
+# end limits
 
 
 @dataclass(frozen=True)
@@ -39,6 +52,7 @@ class Code:
 # Fields: "who" a driver or card, "where" a partition, and one of three lists in the column `what`:
 # "items" (object = contents), "pairs" (source -> destination), "objects" (names).
 NOBODY = EXTERNAL
+# begin codes: made by tests/tables from tables/codes.ini
 CODES = {code.number: code for code in (
     Code(1, "write", DRIVER, ("who", "items"), "driver {who} writes {what}"),
     Code(2, "write", DEVICE, ("who", "items"), "card {who} writes {what}"),
@@ -53,15 +67,22 @@ CODES = {code.number: code for code in (
     Code(11, "deactivate", DEVICE, ("who",), "deactivate card {who}"),
     Code(12, "deactivate", NOBODY, ("where", "objects"), "deactivate from {where}: {what}"),
 )}
-WRITES = {1, 2}
-READS = {3, 4}
-CREATES, DESTROYS = {5}, {6}
-ACTIVATES = {7, 8, 9}
-DEACTIVATES = {10, 11, 12}
+# end codes
+
+
+def codes_that(verb):
+    """The codes of a verb."""
+    return {code.number for code in CODES.values() if code.verb == verb}
+
+
+WRITES, READS = codes_that("write"), codes_that("read")
+CREATES, DESTROYS = codes_that("create"), codes_that("destroy")
+ACTIVATES, DEACTIVATES = codes_that("activate"), codes_that("deactivate")
 LISTS = ("items", "pairs", "objects")
 
 # Of the line file (1 to 6), of the calls' areas (7 to 9, which the office program never gets wrong), of a move (from
 # 10). Each is worded so that 'no' is the refusal.
+# begin questions: made by tests/tables from tables/questions.ini
 QUESTIONS = {
     1: "Is every number of line.bin complete?",
     2: "Is every number of line.bin well written?",
@@ -92,8 +113,10 @@ QUESTIONS_BY_CODE = {
     (16, 9): "Is what is brought in inactive?",
     (17, 12): "Are all objects in the partition named?",
 }
+OUTSIDE = 19
+IN_REACH = 20
+# end questions
 FIRST_OF_TABLES = 5
-OUTSIDE, IN_REACH = 19, 20
 
 
 def question(number, code=None):

@@ -61,8 +61,8 @@ pub fn fresh(line: &[u8], state: &mut [u8]) -> Result<(), Refusal> {
     Refusal::check(number)
 }
 
-/// Judges one operation record and, if it is accepted, carries it out: questions 1 to 20. A read (codes 3 and 4) has
-/// then put sixteen bytes for each source at the start of `answer`; the rest of `answer` is as it was. If the record is
+/// Judges one operation record by all questions and, if it is accepted, carries it out. A read (codes 3 and 4) has then
+/// put sixteen bytes for each source at the start of `answer`; the rest of `answer` is as it was. If the record is
 /// refused, both areas are as they were.
 ///
 /// An empty record is always refused, and never for what it asks: `Refusal` 10 says that the line file and both areas

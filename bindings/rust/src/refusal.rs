@@ -3,7 +3,8 @@
 use core::error::Error;
 use core::fmt::{self, Display, Formatter};
 
-/// What it means that question 1, 2, .. 20 is answered with no.
+/// What it means that question 1, 2, .. is answered with no.
+// begin texts: made by tests/tables from tables/questions.ini
 const TEXTS: [&str; 20] = [
     "line file: a number's last byte is missing",
     "line file: a number has more than three bytes, is not in the shortest form, or is above 65,535",
@@ -26,6 +27,7 @@ const TEXTS: [&str; 20] = [
     "a chain of descriptor writes would lead a card out of its partition",
     "an active card can reach an object that would leave",
 ];
+// end texts
 
 /// The first question that was answered with no. A refused call changed nothing.
 #[derive(Clone, Copy, Debug, PartialEq, Eq, PartialOrd, Ord, Hash)]
@@ -35,12 +37,12 @@ impl Refusal {
     /// How many questions there are.
     pub const QUESTIONS: u8 = TEXTS.len() as u8;
 
-    /// The refusal with a question's number, 1 to 20, as a log or another program tells it.
+    /// The refusal with a question's number, 1 to `QUESTIONS`, as a log or another program tells it.
     pub const fn new(number: u8) -> Option<Refusal> {
         if number >= 1 && number <= Refusal::QUESTIONS { Some(Refusal(number)) } else { None }
     }
 
-    /// The question's number, 1 to 20.
+    /// The question's number, 1 to `QUESTIONS`.
     pub const fn number(self) -> u8 {
         self.0
     }
@@ -55,9 +57,9 @@ impl Refusal {
         if number == 0 {
             return Ok(());
         }
-        // The library's contract gives 0 to 20 for every input. Another number would be of another library.
+        // The library's contract gives 0 or a question's number for every input. Another is of another library.
         let refusal = u8::try_from(number).ok().and_then(Refusal::new);
-        Err(refusal.expect("libgate.a answers 0 to 20"))
+        Err(refusal.expect("libgate.a answers 0 or the number of a question"))
     }
 }
 

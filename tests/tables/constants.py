@@ -1,0 +1,60 @@
+"""Constants as the sources write them down, worked out: of Rattle and Rust, of C, of Python."""
+import ast
+import re
+
+from data import ROOT, Fault
+
+CONSTANT = re.compile(r"^(?:pub )?const (\w+): \w+ = ([^;]+);", re.MULTILINE)
+IMPORT = re.compile(r"^use (\w+)::(\w+);", re.MULTILINE)
+DEFINE = re.compile(r"^#define (\w+) (\d+)$", re.MULTILINE)
+SIGNS = {ast.Add: lambda a, b: a + b, ast.Sub: lambda a, b: a - b, ast.Mult: lambda a, b: a * b}
+
+
+def text_of(path):
+    return (ROOT / path).read_text(encoding="utf-8")
+
+
+def worked_out(text, value):
+    """A sum of numbers and names; `value` gives a name's number."""
+    def walk(node):
+        if isinstance(node, ast.Constant) and isinstance(node.value, int):
+            return node.value
+        if isinstance(node, ast.Name):
+            return value(node.id)
+        if isinstance(node, ast.BinOp) and type(node.op) in SIGNS:
+            return SIGNS[type(node.op)](walk(node.left), walk(node.right))
+        raise Fault(f"cannot be worked out: {text}")
+    return walk(ast.parse(re.sub(r" as \w+", "", text), mode="eval").body)
+
+
+def of_source(path, name):
+    """A constant of a Rattle or Rust file; what it imports stands in crates/NAME/src/lib.rt."""
+    text = text_of(path)
+    made = dict(CONSTANT.findall(text))
+    imported = {constant: crate for crate, constant in IMPORT.findall(text)}
+    if name in imported:
+        return of_source(f"crates/{imported[name]}/src/lib.rt", name)
+    if name not in made:
+        raise Fault(f"{path} has no constant {name}")
+    return worked_out(made[name], lambda other: of_source(path, other))
+
+
+def of_header(path, name):
+    found = [int(number) for defined, number in DEFINE.findall(text_of(path)) if defined == name]
+    if len(found) != 1:
+        raise Fault(f"{path} does not define {name} once, as a number")
+    return found[0]
+
+
+def of_python(path, name):
+    """A number that a Python file gives to a name at its top, alone or beside others."""
+    for node in ast.parse(text_of(path)).body:
+        if not isinstance(node, ast.Assign):
+            continue
+        target = node.targets[0]
+        pairs = zip(target.elts, getattr(node.value, "elts", ())) if isinstance(target, ast.Tuple) else [
+            (target, node.value)]
+        for left, right in pairs:
+            if isinstance(left, ast.Name) and left.id == name and isinstance(right, ast.Constant):
+                return right.value
+    raise Fault(f"{path} gives no number to {name}")

@@ -1,0 +1,94 @@
+"""The tables held to what the library is made of: its constants, the model's definitions, the codes that it knows."""
+import re
+
+from constants import of_header, of_python, of_source, text_of, worked_out
+from data import NUMBER_KEYS, ROOT, Fault, codes, numbers, questions, read
+
+SPECS = "crates/model/specs"
+CODES = "crates/operation/src/codes.rt"
+# What crates/operation calls what the planner's tables call otherwise.
+FAMILIES = {"Write": "write", "Copy": "read", "Create": "create", "Destroy": "destroy", "Activate": "activate",
+            "Deactivate": "deactivate"}
+ACTORS = {"Driver": "driver", "Device": "card", "External": "nobody"}
+READERS = {"read_write": "who, items", "read_copy": "who, pairs", "read_partition": "where",
+           "read_activation": "who, where", "read_list": "where, objects", "read_deactivation": "who"}
+
+
+def plain(text):
+    """With every run of blanks as one."""
+    return " ".join(text.split())
+
+
+def check_numbers():
+    """Each number of tables/numbers.ini is the same where it stands too."""
+    known = numbers()
+    for name, row in read("numbers.ini").items():
+        seen = {}
+        if "rattle" in row:
+            crate, constant = row["rattle"].split()
+            seen[f"crates/{crate}/src/lib.rt"] = of_source(f"crates/{crate}/src/lib.rt", constant)
+        if "reference" in row:
+            seen["reference/src/limits.rs"] = of_source("reference/src/limits.rs", row["reference"])
+        if "sum" in row:
+            seen["its sum"] = worked_out(row["sum"], known.__getitem__)
+        if "header" in row:
+            seen["include/sorter_gate.h"] = of_header("include/sorter_gate.h", row["header"])
+        if "rust" in row:
+            seen["bindings/rust/src/lib.rs"] = of_source("bindings/rust/src/lib.rs", row["rust"])
+        if "python" in row:
+            path, constant = row["python"].split()
+            seen[path] = of_python(path, constant)
+        for place, number in seen.items():
+            if number != known[name]:
+                raise Fault(f"tables/numbers.ini has {known[name]} as {name}, {place} has {number}")
+        if not seen or not row.keys() <= NUMBER_KEYS:
+            raise Fault(f"tables/numbers.ini: {name} is tied to nothing, or has an unknown key")
+
+
+def check_questions():
+    """Each question is put by the model under its number, and its definitions are there; the model puts no other."""
+    rows = questions()
+    for number, row in rows.items():
+        file, text = row["asked"].split(": ", 1)
+        if not re.search(rf"\b{number}\b", text) or text not in plain(text_of(f"{SPECS}/{file}")):
+            raise Fault(f"question {number}: {SPECS}/{file} does not say '{text}'")
+        named = re.findall(r"`([^`]+)`", row["definition"])
+        files = [name for name in named if "/" in name]
+        for name in set(named) - set(files):
+            if not any(re.search(rf"\bpub {name} :", text_of(file)) for file in files):
+                raise Fault(f"question {number}: {', '.join(files)} has no definition {name}")
+    for path in sorted((ROOT / SPECS).glob("*.antt")):
+        for number in re.findall(r"\bask (\d+) \(", path.read_text(encoding="utf-8")):
+            if int(number) not in rows:
+                raise Fault(f"{SPECS}/{path.name} puts question {number}, which tables/questions.ini does not have")
+
+
+def arms(function):
+    """The arms of a function of crates/operation that is one match over the code: its ranges, and what follows."""
+    body = re.search(rf"^(?:pub )?fn {function}\(.*?match code {{(.*?)^    }}", text_of(CODES),
+                     re.DOTALL | re.MULTILINE)
+    if not body:
+        raise Fault(f"{CODES} has no match over the code in {function}")
+    return re.findall(r"^\s+([\d_][^=]*(?:=\d+)?) => ([\w:]+)", body[1], re.MULTILINE)
+
+
+def chosen(function, code):
+    """The word with which the arm of a code ends or begins: a variant, or the function that is called."""
+    for pattern, result in arms(function):
+        for part in pattern.split("|"):
+            low, _, high = part.strip().partition("..=")
+            if low == "_" or int(low) <= code <= int(high or low):
+                return result.split("::")[-1]
+    raise Fault(f"{CODES}: no arm of {function} fits {code}")
+
+
+def check_codes():
+    """Each code does, to whom and with which fields, what the library makes of it; the next one is unknown to both."""
+    rows = codes()
+    for code, row in rows.items():
+        real = (FAMILIES[chosen("family_of", code)], ACTORS[chosen("actor_of", code)],
+                READERS.get(chosen("arguments", code)))
+        if real != (row["does"], row["who"], row["fields"]):
+            raise Fault(f"tables/codes.ini, {code}: {CODES} has {real}")
+    if chosen("arguments", len(rows) + 1) in READERS:
+        raise Fault(f"{CODES} reads code {len(rows) + 1}, which tables/codes.ini does not have")
