@@ -2,7 +2,7 @@
 the library's sources.
 
     python3 tests/tables --write     make the parts anew
-    python3 tests/tables --check     fail if a part differs, or a number or name is not the library's
+    python3 tests/tables --check     fail if a part differs, or a number, name or prototype is not the library's
     python3 tests/tables --numbers   print the questions' numbers
 """
 import difflib
@@ -13,6 +13,7 @@ sys.dont_write_bytecode = True
 sys.path.insert(0, str(pathlib.Path(__file__).resolve().parent))
 from data import ROOT, Fault, questions  # noqa: E402
 from parts import PARTS, made_text, stored  # noqa: E402
+from prototypes import check_prototypes  # noqa: E402
 from ties import check_codes, check_numbers, check_questions  # noqa: E402
 from words import check_words  # noqa: E402
 
@@ -27,6 +28,7 @@ def check():
     check_questions()
     check_words()
     check_codes()
+    check_prototypes()
     print(f"tables: {sum(map(len, PARTS.values()))} parts of {len(PARTS)} files are as the tables make them, and the "
           "tables as the library is")
 
