@@ -69,6 +69,7 @@ check: $(library)
 	python3 bench/stack.py
 	bash tests/bindings.sh
 	bash tests/questions.sh
+	python3 tests/manuals.py
 
 bench: $(library)
 	python3 bench/run.py

@@ -1,8 +1,10 @@
-"""The tables held to what the library is made of: its constants, the model's definitions, the codes that it knows."""
+"""The tables held to what the library is made of: its constants, the model's definitions, the codes that it knows; and
+the figures in texts that are written by hand."""
 import re
 
 from constants import of_header, of_python, of_source, text_of, worked_out
 from data import NUMBER_KEYS, ROOT, Fault, codes, numbers, questions, read
+from parts import PARTS, span
 
 SPECS = "crates/model/specs"
 CODES = "crates/operation/src/codes.rt"
@@ -12,6 +14,9 @@ FAMILIES = {"Write": "write", "Copy": "read", "Create": "create", "Destroy": "de
 ACTORS = {"Driver": "driver", "Device": "card", "External": "nobody"}
 READERS = {"read_write": "who, items", "read_copy": "who, pairs", "read_partition": "where",
            "read_activation": "who, where", "read_list": "where, objects", "read_deactivation": "who"}
+# A figure of a manual: three digits or more, or with a comma.
+FIGURE = re.compile(r"(?<![\w.])\d{1,3}(?:,\d{3})+(?!\w)|(?<![\w.,])\d{3,}(?!\w)")
+CONSOLE = re.compile(r"^```console[^\n]*\n.*?^```$", re.DOTALL | re.MULTILINE)
 
 
 def plain(text):
@@ -92,3 +97,21 @@ def check_codes():
             raise Fault(f"tables/codes.ini, {code}: {CODES} has {real}")
     if chosen("arguments", len(rows) + 1) in READERS:
         raise Fault(f"{CODES} reads code {len(rows) + 1}, which tables/codes.ini does not have")
+
+
+def check_figures():
+    """What tables/figures.ini tells of a text stands there with its numbers, and no other figure does."""
+    known = numbers()
+    for file, row in read("figures.ini").items():
+        text = text_of(file)
+        for name in PARTS.get(file, ()):
+            text = span(name).sub("", text)
+        text = plain(CONSOLE.sub("", text))
+        for line in row["says"].strip().splitlines():
+            phrase = plain(line.format_map(known))
+            if phrase not in text:
+                raise Fault(f"{file}: does not say '{phrase}'")
+            text = text.replace(phrase, "")
+        left = FIGURE.findall(text)
+        if left:
+            raise Fault(f"{file}: tables/figures.ini does not tell what {', '.join(left)} is")
