@@ -51,7 +51,7 @@ fn sequence_p_has_its_answers_and_a_refusal_changes_nothing() {
 #[test]
 fn each_number_has_a_text_of_its_own() {
     let all: Vec<Refusal> = (1..=Refusal::QUESTIONS).filter_map(Refusal::new).collect();
-    assert_eq!(all.len(), 20);
+    assert_eq!(all.len(), usize::from(Refusal::QUESTIONS));
     for (place, refusal) in all.iter().enumerate() {
         assert_eq!(usize::from(refusal.number()), place + 1);
         assert!(!refusal.text().is_empty());
@@ -59,7 +59,37 @@ fn each_number_has_a_text_of_its_own() {
         assert_eq!(all.iter().filter(|other| other.text() == refusal.text()).count(), 1);
     }
     assert_eq!(Refusal::new(0), None);
-    assert_eq!(Refusal::new(21), None);
+    assert_eq!(Refusal::new(Refusal::QUESTIONS + 1), None);
+}
+
+/// Each example of the questions, through the binding, is refused by its own.
+#[test]
+fn the_examples_have_their_numbers() {
+    let folder = |number: u8| format!("{}/../../examples/questions/{number:02}", env!("CARGO_MANIFEST_DIR"));
+    let file = |number, name| std::fs::read(format!("{}/{name}", folder(number)));
+    for expected in 1..=Refusal::QUESTIONS {
+        let line = file(expected, "line.bin").expect("an example has a line file");
+        let result = match (file(expected, "state.bin"), file(expected, "answer.bin")) {
+            (Ok(mut state), Ok(mut answer)) => {
+                let record = file(expected, "record.bin").expect("an example with areas has a record");
+                operate(&line, &mut state, &record, &mut answer)
+            }
+            _ => session(&line, &file(expected, "session.bin").expect("an example has a session")),
+        };
+        assert_eq!(number(result), expected);
+    }
+}
+
+/// The records of a session, each after its length, up to the first that is refused. All lengths are below 128.
+fn session(line: &[u8], mut records: &[u8]) -> Result<(), Refusal> {
+    let (mut state, mut answer) = ([0; STATE_BYTES], [0; ANSWER_BYTES]);
+    fresh(line, &mut state)?;
+    while let [length, rest @ ..] = records {
+        let (record, left) = rest.split_at(usize::from(*length));
+        operate(line, &mut state, record, &mut answer)?;
+        records = left;
+    }
+    Ok(())
 }
 
 #[test]
