@@ -1,6 +1,6 @@
 -- Questions 18 to 20 from their parts. Assumes nothing.
 use Prim.Native.Nat.{ℕ, zero, suc}
-use mathlib.Core.Path.{_≡_, refl, sym, ap, _∙_}
+use mathlib.Core.Path.{_≡_, refl, sym, ap, _∙_, subst}
 use mathlib.Core.List.{List}
 use mathlib.Core.Bool.{Bool, true, false, true≢false, false≢true}
 use lib.ListN.{getD}
@@ -20,7 +20,7 @@ use Rattle.model.specs.declared.Actor.the-variants.{Driver, Device, External}
 use Rattle.model.specs.declared.Config.{Config}
 use Rattle.model.specs.declared.Operation.{Operation}
 use Rattle.questions.specs.Items.{upTo}
-use Rattle.gate.specs.Ready.{Ready, Asked}
+use Rattle.gate.specs.Ready.{Searchable, Ready, Asked}
 use Rattle.gate.specs.Asking.{stores, leaves, byDevice, pairDescribed, transferOf, itemDescribed, Marks}
 use Rattle.gate.proofs.Readying
 
@@ -189,3 +189,12 @@ pub q19-next : (config : Config) (room : ℕ) (area : List ℕ) (op : Operation)
 q19-next config room area op f a ready asked h k {s} e p =
     p ∙ (ap (confined config) (Readying.next-view config room area op f a ready asked s e)
     ∙ q19-after config (view room area) op f a h k)
+
+-- question 19: what is searched is the area s that the operation leaves
+module _ (config : Config) (room : ℕ) {s t : List ℕ} (e : s ≡ t) where
+  pub searched-at : Searchable config room t → Searchable config room s
+  searched-at h = subst (Searchable config room) (sym e) h
+
+  pub confined-at : {r : Bool} → r ≡ confined config (view room s)
+      → (r ≡ confined config (view room t)) × (s ≡ t)
+  confined-at h = (h ∙ ap (λ (x : List ℕ). confined config (view room x)) e, e)

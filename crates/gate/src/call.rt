@@ -36,10 +36,11 @@ fn judge_all(config: Config, area: &[u8], room: usize, op: Operation) -> u8
     if !stays_confined(config, area, room, op, f, a) {
         return 19;
     }
-    if !stays_unnamed(config, area, room, op, f, a) {
-        return 20;
+    if stays_unnamed(config, area, room, op, f, a) {
+        0
+    } else {
+        20
     }
-    0
 }
 
 // The answer; both areas change at answer 0 only.

@@ -64,6 +64,25 @@ fn is_confined(config: Config, area: &[u8], room: usize) -> bool
     is_nothing(found)
 }
 
+// In the area after an operation, made in `next`, no entry in the closure crosses.
+fn is_confined_after(
+    area: &[u8],
+    next: &mut [u8],
+    room: usize,
+    config: Config,
+    op: Operation,
+) -> bool
+    requires { ⌜ length (now next) ≡ areaLength room ⌝ }
+    requires { ⌜ Fit room op (now area) (replicate answerBytes 0) ⌝ }
+    requires { ⌜ Searchable config room (layout (applied config op (view room (now area)))) ⌝ }
+    ensures { λ r.
+        ⌜ r ≡ confined config (view room (layout (applied config op (view room (now (area .entry)))))) ⌝ }
+    ensures { λ _. ⌜ now (next .exit) ≡ layout (applied config op (view room (now (area .entry)))) ⌝ }
+{
+    follow(area, next, room, config, op);
+    is_confined(config, &next[..], room)
+}
+
 // 19: after a write or copy, unless a device acts, no entry crosses.
 pub fn stays_confined(
     config: Config,
@@ -84,6 +103,5 @@ pub fn stays_confined(
         return true;
     }
     let mut next = [0u8; AREA_BYTES];
-    follow(area, &mut next, room, config, op);
-    is_confined(config, &next, room)
+    is_confined_after(area, &mut next, room, config, op)
 }

@@ -53,19 +53,19 @@ returns-4 : tie.Need-returns-4
 returns-4 c =
     let c₁ = c .before .before .before in let c₂ = c₁ .before .before .before in
     let c₃ = c₂ .before .before .before in
-    Calling.no-20 _ _ _ (c₃ .judge .ensures) (c₂ .before .before .if1 .left) (c₂ .before .family-of .ensures)
+    Calling.all-yes _ _ _ (c₃ .judge .ensures) (c₂ .before .before .if1 .left) (c₂ .before .family-of .ensures)
     (c₂ .actor-of .ensures) (c₁ .before .before .are-described .ensures) (not-false _ (c₁ .before .if2 .left))
     (c₁ .stays-confined .ensures) (not-false _ (c .before .before .if3 .left)) (c .before .stays-unnamed .ensures)
-    (not-true _ (c .if4 .taken))
+    (c .if4 .taken)
 
 returns-5 : tie.Need-returns-5
 returns-5 c =
     let c₁ = c .before .before .before in let c₂ = c₁ .before .before .before in
     let c₃ = c₂ .before .before .before in
-    Calling.all-yes _ _ _ (c₃ .judge .ensures) (c₂ .before .before .if1 .left) (c₂ .before .family-of .ensures)
+    Calling.no-20 _ _ _ (c₃ .judge .ensures) (c₂ .before .before .if1 .left) (c₂ .before .family-of .ensures)
     (c₂ .actor-of .ensures) (c₁ .before .before .are-described .ensures) (not-false _ (c₁ .before .if2 .left))
     (c₁ .stays-confined .ensures) (not-false _ (c .before .before .if3 .left)) (c .before .stays-unnamed .ensures)
-    (not-false _ (c .if4 .left))
+    (c .if4 .left)
 
 pub judge-all-spec : {M : Type 1} → statement M
 judge-all-spec =
