@@ -3,35 +3,22 @@ use Prim.Native.Nat.{ℕ, zero, suc, _≤_}
 use native.Mathlib.Omega.{arith}
 use mathlib.Core.Path.{_≡_, refl}
 use mathlib.Core.Logic.{_⊎_, inl, inr}
-use mathlib.Core.Bool.{true, false, not, _||_, false≢true}
+use mathlib.Core.Bool.{true, not, _||_, false≢true}
 use mathlib.Core.List.{List, [], _∷_}
 use lib.Dec.{leb, eqb}
 use lib.ListN.{length, getD}
 use borrow.Author.Tests.{eqb-true, leb-true, le-leb}
 use Rattle.model.specs.Config.{kindOf, ownerOf, hardcodedOf, entryPlace, entryAt}
-use Rattle.model.specs.State.{
-  State,
-  contentOf,
-  held,
-  valueBytes,
-  areaLength,
-  view,
-  sameBytes,
-  aValue,
-  rightPlace,
-  rightContent,
-  rightObject,
-  wellFormed,
-}
+use Rattle.model.specs.State.{State, contentOf, held, valueBytes, areaLength, view, sameBytes, aValue, rightContent}
 use Rattle.model.specs.declared.Config.{Config}
-use Rattle.model.proofs.Lists.{and-l, and-r, or-true, every-at}
+use Rattle.model.proofs.Lists.{and-l, and-r, or-true}
 use Rattle.model.proofs.Columns.{or-else}
 use Rattle.model.proofs.Facts.{cond-true}
 use Rattle.model.proofs.Formed.{content-value}
 use Rattle.model.proofs.Hardcoded as Hardcoded
 use Rattle.model.proofs.Accepted as Accepted
 use Rattle.closure.specs.Rules.{holdsValue}
-use Rattle.closure.specs.Scene.{configOf, In, ValuesOk, OwnersOk, AreaOk}
+use Rattle.closure.specs.Scene.{In, ValuesOk, OwnersOk, AreaOk}
 
 module _ (config : Config) (sound : Accepted.Sound config) where
   pub values-ok : ValuesOk (config .counts) (config .values .count) (config .values .entries)
@@ -112,21 +99,3 @@ module _ (config : Config) (sound : Accepted.Sound config) where
         in-room = fits;
         held-known = λ o i k. content-known (view room area) o i (h o i) k;
       }
-
-  -- question 9: a well-formed area is one
-  pub area-formed : (room : ℕ) (area : List ℕ) → length area ≡ areaLength room → config .counts .objects ≤ room
-      → wellFormed room config (view room area) ≡ true → AreaOk (config .counts) (config .objects .kind) area room
-  unfolding wellFormed
-  area-formed room area long fits h =
-      area-ok room area long fits
-      (λ o i. and-r (rightPlace config b o) (rightContent config o (contentOf b o))
-      (every-at room (λ n. rightObject config b n) (search (and-l, and-r)) o (i .low) (omega (arith, i .high))))
-    where
-      b : State
-      b = view room area
-
--- a configuration is made of its columns
-pub config-again : (config : Config)
-    → configOf (config .devices) (config .counts) (config .objects .kind) (config .objects .class)
-    (config .objects .owner) (config .values .count) (config .values .entries) ≡ config
-config-again config = refl

@@ -23,7 +23,6 @@ use Rattle.model.proofs.StateBytes.{layout-view}
 use Rattle.state.specs.Splice.{splice, part}
 use Rattle.state.specs.Change.{withContent}
 use Rattle.effect.specs.Transfers.{slot, operationOf, itemOf, Small, written, sources, restored}
-use Rattle.state.proofs.Splicing.{length-part}
 use Rattle.state.proofs.Places.{view-shape, window-take}
 use Rattle.state.proofs.Turns.{after-content}
 
@@ -151,9 +150,6 @@ module _ (objects : List ℕ) (room : ℕ) (s d₀ : List ℕ) where
       rw (← e) inv
 
 -- destinations
-pub length-load : (s : List ℕ) (at n : ℕ) (c : List ℕ) → c ≡ part s at n → at + n ≤ length s → length c ≡ n
-length-load s at n c e h = ap length e ∙ length-part s at n h
-
 module _ (seconds answer : List ℕ) (room : ℕ) (s₀ : List ℕ) where
   pub scatter-none : view room s₀ ≡ restored seconds answer 0 (view room s₀)
   unfolding restored

@@ -9,22 +9,20 @@ use lib.ListN.{length}
 use lib.Dec.{leb, eqb}
 use borrow.Author.Tests.{le-leb, lt-leb, leb-true}
 use Rattle.model.specs.Base.{below}
-use Rattle.model.specs.Config.{mostValues, from1to}
+use Rattle.model.specs.Config.{from1to}
 use Rattle.model.specs.State.{mostPartition, areaLength, view, layout}
-use Rattle.model.specs.Operation.{familyOf, actorOf, objectAt, secondAt, formAt, readOperation}
+use Rattle.model.specs.Operation.{familyOf, actorOf, objectAt, secondAt, formAt}
 use Rattle.model.specs.declared.Family.{Family}
 use Rattle.model.specs.declared.Family.the-variants.{Write, Copy, Create, Destroy, Activate, Deactivate}
 use Rattle.model.specs.declared.Actor.{Actor}
 use Rattle.model.specs.declared.Actor.the-variants.{Driver, Device, External}
 use Rattle.model.specs.Effect.{apply, answerBytes, answered}
-use Rattle.model.specs.ConfigFile.{load}
 use Rattle.model.specs.Questions.{isObject, itemExists, q11}
 use Rattle.model.specs.Gate.{applied}
 use Rattle.model.specs.declared.Config.{Config}
 use Rattle.model.specs.declared.Operation.{Operation}
 use Rattle.model.proofs.Lists.{and-l, and-r, from1to-high, below-at}
-use Rattle.model.proofs.Accepted.{load-sound}
-use Rattle.model.proofs.OperationRange.{InRange, read-ranged}
+use Rattle.model.proofs.OperationRange.{InRange}
 use Rattle.effect.specs.Transfers.{Small}
 use Rattle.effect.specs.Fit.{Fit}
 
@@ -135,14 +133,3 @@ module _ (room : ℕ) (config : Config) (op : Operation) (s answer : List ℕ) w
         small = λ e. q11-small config op (actorOf (op .code)) v
             (subst (λ (x : Family). q11 config op x (actorOf (op .code)) ≡ true) e h);
       }
-
--- an accepted file, an operation read to its end, and question 11
-pub accepted-fit : (room : ℕ) (file bytes s answer : List ℕ) → (load file) .answer ≡ 0 → (readOperation bytes) .0 ≡ 0
-    → length s ≡ areaLength room → answerBytes ≤ length answer
-    → q11 ((load file) .config) ((readOperation bytes) .1) (familyOf ((readOperation bytes) .1 .code))
-    (actorOf ((readOperation bytes) .1 .code))
-    ≡ true
-    → Fit room ((readOperation bytes) .1) s answer
-accepted-fit room file bytes s answer a b l d h =
-    let v : (load file) .config .counts .values ≤ mostValues = load-sound file a .few .values in
-    fit room ((load file) .config) ((readOperation bytes) .1) s answer l d (read-ranged bytes b) (omega arith) h

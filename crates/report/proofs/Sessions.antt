@@ -1,5 +1,5 @@
 -- Laws of a session's rows: a row, nothing left, a session that is broken off, and a record with what follows it.
-use Prim.Native.Nat.{ℕ, zero, suc, _+_, _-_, _≤_, _<_}
+use Prim.Native.Nat.{ℕ, suc, _+_, _-_, _≤_, _<_}
 use mathlib.Core.Path.{_≡_, refl, sym, ap, _∙_, subst}
 use mathlib.Core.List.{List, [], _∷_, _++_, append-assoc}
 use native.Mathlib.Omega.{arith}
@@ -89,10 +89,6 @@ module _ (file session area₀ answer₀ out₀ : List ℕ) where
       (r : ℕ) (area′ answer′ out′ : List ℕ)
       → Rows file (cutting 0 (drop at session)) place area answer end out r area′ answer′ out′
       → Rows file (cutting 0 session) 0 area₀ answer₀ 0 out₀ r area′ answer′ out′
-
-  pub onward-first : Onward area₀ answer₀ out₀ 0 0 0
-  unfolding Onward
-  onward-first r area′ answer′ out′ h = h
 
   module _ (area answer out : List ℕ) (at place end : ℕ) (k : Onward area answer out at place end) where
     pub onward-done : length session ≤ at → end ≤ length out

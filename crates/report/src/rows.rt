@@ -2,7 +2,6 @@
 ghost use mathlib.Core.Path.{_≡_};
 ghost use Rattle.model.specs.Gate.{operate};
 ghost use Rattle.model.specs.Office.{row, cutRow, cutting};
-ghost use Rattle.model.specs.Programs.{Operated};
 ghost use Rattle.report.specs.Page.{Put, Rows};
 use crate::page::put;
 use crate::page::put_decimal;

@@ -4,7 +4,7 @@ use mathlib.Core.Path.{_≡_, sym, _∙_}
 use mathlib.Core.List.{List, [], append-nil}
 use native.Mathlib.Numerals.{add-one}
 use native.Mathlib.Omega.{arith}
-use lib.ListN.{length, getD, take, drop, set, length-set, length-append, length-take, length-drop, drop-of-length-le}
+use lib.ListN.{length, getD, take, drop, set, length-set, length-take, length-drop, drop-of-length-le}
 use lib.Seq.{paste, paste-suc, paste-zero, take-all, getD-drop}
 use Rattle.model.specs.State.{contentBytes}
 use Rattle.state.specs.Splice.{splice, part}
@@ -12,10 +12,6 @@ use Rattle.state.specs.Splice.{splice, part}
 pub length-part : (s : List ℕ) (at n : ℕ) → at + n ≤ length s → length (part s at n) ≡ n
 unfolding part
 length-part s at n h = simp (length-take, length-drop) (omega arith)
-
-pub length-splice : (s : List ℕ) (at : ℕ) (v : List ℕ) → at + length v ≤ length s → length (splice s at v) ≡ length s
-unfolding splice
-length-splice s at v h = simp (length-append, length-take, length-drop) (omega arith)
 
 -- a copy so far is the library's `paste`
 as-paste : (s : List ℕ) (from : ℕ) (d : List ℕ) (to i : ℕ) → from + i ≤ length s

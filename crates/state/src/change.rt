@@ -1,7 +1,7 @@
 // One change of the state that an area shows. A number that names nothing changes nothing.
 ghost use mathlib.Core.Path.{_≡_};
 ghost use lib.ListN.{length};
-ghost use Rattle.model.specs.State.{contentOf, cleared, areaLength, view, layout};
+ghost use Rattle.model.specs.State.{cleared, areaLength, view, layout};
 ghost use Rattle.state.specs.Change.{withStatus, withDriver, withDevice, withObject, withContent};
 use crate::DEVICE_BYTES;
 use crate::DEVICES_FROM;
@@ -11,7 +11,6 @@ use crate::PARTITIONS;
 use crate::RECORD_BYTES;
 use crate::RECORDS_FROM;
 use crate::bytes::save;
-use crate::look::content;
 use model::CONTENT_BYTES;
 
 // Partition p gets the status v.
@@ -82,15 +81,4 @@ pub fn clear(area: &mut [u8], room: usize, n: usize)
     ensures { λ _. ⌜ now (area .exit) ≡ layout (withContent (view room (now (area .entry))) n cleared) ⌝ }
 {
     store(area, room, n, [0u8; CONTENT_BYTES]);
-}
-
-// The contents of object `from` go to object `to`.
-pub fn copy_content(area: &mut [u8], room: usize, from: usize, to: usize)
-    requires { ⌜ length (now area) ≡ areaLength room ⌝ }
-    ensures { λ _.
-        ⌜ now (area .exit) ≡ layout (withContent (view room (now (area .entry))) to
-        (contentOf (view room (now (area .entry))) from)) ⌝ }
-{
-    let v = content(&area[..], room, from);
-    store(area, room, to, v);
 }

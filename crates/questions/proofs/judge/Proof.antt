@@ -1,5 +1,4 @@
 -- `questions::judge` meets its contract: the first group ends it, or the second answers. Assumes nothing.
-use Prim.Native.Nat.{_-_}
 use borrow.Author.Needs.{needs}
 use Rattle.questions.proofs.Laws
 use Rattle.questions.proofs.judge.Statement.{statement}

@@ -1,6 +1,5 @@
 -- `questions::lookups::number_of` meets its contract: past the end the definition gives 0. Assumes nothing.
 use mathlib.Core.Path.{sym}
-use Prim.Native.Nat.{_-_}
 use lib.ListN.{List·getD-eq-default}
 use borrow.Author.Needs.{needs}
 use Rattle.questions.proofs.lookups.number_of.Statement.{statement}

@@ -1,5 +1,4 @@
 -- `questions::names::actor_named` meets its contract: each arm of the match is the definition's. Assumes nothing.
-use Prim.Native.Nat.{_-_}
 use borrow.Author.Needs.{needs}
 use Rattle.questions.proofs.names.actor_named.Statement.{statement}
 use Rattle.questions.proofs.names.actor_named.Tie as tie

@@ -1,5 +1,4 @@
 -- `questions::names::exist` meets its contract: the three parts are the model's. Assumes nothing.
-use Prim.Native.Nat.{_-_}
 use borrow.Author.Needs.{needs}
 use Rattle.questions.proofs.Laws
 use Rattle.questions.proofs.names.exist.Statement.{statement}

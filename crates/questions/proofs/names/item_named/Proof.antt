@@ -1,5 +1,4 @@
 -- `questions::names::item_named` meets its contract: each arm of the match is the definition's. Assumes nothing.
-use Prim.Native.Nat.{_-_}
 use borrow.Author.Needs.{needs}
 use Rattle.questions.proofs.names.item_named.Statement.{statement}
 use Rattle.questions.proofs.names.item_named.Tie as tie

@@ -1,6 +1,5 @@
 -- `questions::names::judge_names` meets its contract: the answers are put together as in the definition. Assumes
 -- nothing.
-use Prim.Native.Nat.{_-_}
 use borrow.Author.Needs.{needs}
 use Rattle.questions.specs.Items.{namesNo}
 use Rattle.questions.proofs.names.judge_names.Statement.{statement}

@@ -1,6 +1,5 @@
 -- `questions::names::kinds_fit` meets its contract: the columns' question is the model's. Assumes nothing.
 use mathlib.Core.Path.{_∙_}
-use Prim.Native.Nat.{_-_}
 use borrow.Author.Needs.{needs}
 use Rattle.questions.proofs.Laws
 use Rattle.questions.proofs.names.kinds_fit.Statement.{statement}

@@ -1,5 +1,4 @@
 -- `questions::places::activity_fits` meets its contract: each arm of the match is the definition's. Assumes nothing.
-use Prim.Native.Nat.{_-_}
 use borrow.Author.Needs.{needs}
 use Rattle.model.specs.Questions.{q16}
 use Rattle.questions.proofs.places.activity_fits.Statement.{statement}

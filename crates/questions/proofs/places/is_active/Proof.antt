@@ -1,6 +1,5 @@
 -- `questions::places::is_active` meets its contract: each arm of the match is the definition's. Assumes nothing.
 use mathlib.Core.Path.{_∙_}
-use Prim.Native.Nat.{_-_}
 use borrow.Author.Needs.{needs}
 use Rattle.questions.proofs.Laws
 use Rattle.questions.proofs.places.is_active.Statement.{statement}

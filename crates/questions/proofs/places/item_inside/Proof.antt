@@ -1,5 +1,4 @@
 -- `questions::places::item_inside` meets its contract: each arm of the match is the definition's. Assumes nothing.
-use Prim.Native.Nat.{_-_}
 use borrow.Author.Needs.{needs}
 use Rattle.questions.proofs.places.item_inside.Statement.{statement}
 use Rattle.questions.proofs.places.item_inside.Tie as tie

@@ -1,6 +1,5 @@
 -- `questions::places::judge_places` meets its contract: the answers are put together as in the definition. Assumes
 -- nothing.
-use Prim.Native.Nat.{_-_}
 use borrow.Author.Needs.{needs}
 use Rattle.questions.specs.Items.{placesNo}
 use Rattle.questions.proofs.places.judge_places.Statement.{statement}

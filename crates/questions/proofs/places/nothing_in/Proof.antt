@@ -1,5 +1,4 @@
 -- `questions::places::nothing_in` meets its contract: the three columns are the model's. Assumes nothing.
-use Prim.Native.Nat.{_-_}
 use borrow.Author.Needs.{needs}
 use Rattle.model.specs.State.{view}
 use Rattle.questions.proofs.Laws

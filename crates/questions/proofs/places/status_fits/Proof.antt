@@ -1,5 +1,4 @@
 -- `questions::places::status_fits` meets its contract: each arm of the match is the definition's. Assumes nothing.
-use Prim.Native.Nat.{_-_}
 use borrow.Author.Needs.{needs}
 use Rattle.model.specs.Questions.{q14}
 use Rattle.questions.proofs.places.status_fits.Statement.{statement}
