@@ -1,4 +1,4 @@
--- Items stored one after the other, and contents gathered and scattered.
+-- Items stored one after the other, and contents read out and copied to their destinations.
 use Prim.Native.Nat.{ℕ, zero, suc, _+_, _*_, _≤_, _<_}
 use mathlib.Core.Path.{_≡_, refl, sym, ap, _∙_, subst}
 use mathlib.Core.List.{List, [], _++_, append-assoc}
@@ -128,43 +128,43 @@ module _ (op : Operation) (room : ℕ) (b : State) (sh : Shape room b) where
       ∙ (drop-drop contentBytes (contentBytes * i) d ∙ ap (λ (n : ℕ). drop n d) y)) j)
 
 module _ (objects : List ℕ) (room : ℕ) (s d₀ : List ℕ) where
-  pub gather-none : d₀ ≡ sources (operationOf objects [] [] []) (view room s) 0 ++ drop (contentBytes * 0) d₀
+  pub read-out-none : d₀ ≡ sources (operationOf objects [] [] []) (view room s) 0 ++ drop (contentBytes * 0) d₀
   unfolding sources
-  gather-none = refl
+  read-out-none = refl
 
-  pub gather-on : (i n : ℕ) (d t c : List ℕ)
+  pub read-out-on : (i n : ℕ) (d t c : List ℕ)
       → d ≡ sources (operationOf objects [] [] []) (view room s) i ++ drop (contentBytes * i) d₀ → n ≡ getD objects i 0
       → c ≡ contentOf (view room s) n → t ≡ splice d (contentBytes * i) c
       → t ≡ sources (operationOf objects [] [] []) (view room s) (i + 1) ++ drop (contentBytes * (i + 1)) d₀
   unfolding sources operationOf
-  gather-on i n d t c inv e f g =
+  read-out-on i n d t c inv e f g =
       g ∙ rw (inv, add-one i)
       (source-stored (operationOf objects [] [] []) room (view room s) (view-shape room s) i d₀ c
       (f ∙ ap (contentOf (view room s)) e))
 
-  pub gather-end : (i count : ℕ) (d : List ℕ)
+  pub read-out-end : (i count : ℕ) (d : List ℕ)
       → d ≡ sources (operationOf objects [] [] []) (view room s) i ++ drop (contentBytes * i) d₀ → i ≤ count → count ≤ i
       → d ≡ sources (operationOf objects [] [] []) (view room s) count ++ drop (contentBytes * count) d₀
-  gather-end i count d inv h k =
+  read-out-end i count d inv h k =
       let e : i ≡ count = omega arith in
       rw (← e) inv
 
 -- destinations
 module _ (seconds answer : List ℕ) (room : ℕ) (s₀ : List ℕ) where
-  pub scatter-none : view room s₀ ≡ restored seconds answer 0 (view room s₀)
+  pub store-copies-none : view room s₀ ≡ restored seconds answer 0 (view room s₀)
   unfolding restored
-  scatter-none = refl
+  store-copies-none = refl
 
-  pub scatter-on : (i n : ℕ) (s t c : List ℕ) → view room s ≡ restored seconds answer i (view room s₀)
+  pub store-copies-on : (i n : ℕ) (s t c : List ℕ) → view room s ≡ restored seconds answer i (view room s₀)
       → n ≡ getD seconds i 0 → c ≡ slot answer i → Sixteen c → t ≡ layout (withContent (view room s) n c)
       → view room t ≡ restored seconds answer (i + 1) (view room s₀)
-  scatter-on i n s t c inv e f w g =
+  store-copies-on i n s t c inv e f w g =
       after-content room s t n c w g ∙ rw (inv, e, f, add-one i) (restore-step seconds answer i (view room s₀))
 
-  pub scatter-end : (i count : ℕ) (s : List ℕ) → length s ≡ length s₀ → length s₀ ≡ areaLength room
+  pub store-copies-end : (i count : ℕ) (s : List ℕ) → length s ≡ length s₀ → length s₀ ≡ areaLength room
       → view room s ≡ restored seconds answer i (view room s₀) → i ≤ count → count ≤ i
       → s ≡ layout (restored seconds answer count (view room s₀))
-  scatter-end i count s l m inv h k =
+  store-copies-end i count s l m inv h k =
       let e : i ≡ count = omega arith in
       sym (layout-view room s (l ∙ m)) ∙ ap layout (rw (← e) inv)
 

@@ -1,4 +1,5 @@
-// Items written, and contents read out and copied.
+// Items written, and contents copied between objects. Contents are sixteen bytes by value (`[u8; CONTENT_BYTES]`): all
+// are read out before anything is stored, and then copied to their destinations.
 ghost use mathlib.Core.Path.{_≡_};
 ghost use mathlib.Core.List.{_++_, []};
 ghost use Prim.Native.Nat.{_+_, _*_, _≤_, _<_};
@@ -59,8 +60,8 @@ fn write_list<'a>(
     }
 }
 
-// The contents of the first `count` sources go to the answer area, in order.
-fn gather(area: &[u8], room: usize, objects: &[u32], count: usize, answer: &mut [u8])
+// Contents read out: those of the first `count` sources go to the answer area, in order. No object is stored to.
+fn read_out(area: &[u8], room: usize, objects: &[u32], count: usize, answer: &mut [u8])
     requires { ⌜ (length (now area) ≡ areaLength room) × (contentBytes * count ≤ length (now answer)) ⌝ }
     ensures { λ _.
         ⌜ now (answer .exit)
@@ -76,8 +77,8 @@ fn gather(area: &[u8], room: usize, objects: &[u32], count: usize, answer: &mut 
     }
 }
 
-// What stands in the answer area goes to the first `count` destinations.
-fn scatter(area: &mut [u8], room: usize, seconds: &[u32], count: usize, answer: &[u8])
+// Contents copied: what was read out to the answer area is stored at the first `count` destinations.
+fn store_copies(area: &mut [u8], room: usize, seconds: &[u32], count: usize, answer: &[u8])
     requires { ⌜ (length (now area) ≡ areaLength room) × (contentBytes * count ≤ length (now answer)) ⌝ }
     ensures { λ _.
         ⌜ now (area .exit) ≡ layout (restored (now (seconds .entry)) (now (answer .entry)) count
@@ -111,7 +112,8 @@ pub fn write_items(area: &mut [u8], room: usize, op: Operation)
     );
 }
 
-// Codes 3 and 4: sources go to the answer area and to their destinations. All are read before anything is stored.
+// Codes 3 and 4: contents are copied between objects. All sources are read out, to the answer area, before anything is
+// stored; then each is stored at its destination.
 pub fn copy_contents(area: &mut [u8], room: usize, op: Operation, answer: &mut [u8])
     requires { ⌜ (length (now area) ≡ areaLength room) × (contentBytes * op .count ≤ length (now answer)) ⌝ }
     ensures { λ _.
@@ -120,6 +122,6 @@ pub fn copy_contents(area: &mut [u8], room: usize, op: Operation, answer: &mut [
     ensures { λ _.
         ⌜ now (answer .exit) ≡ answered op Copy (view room (now (area .entry))) (now (answer .entry)) ⌝ }
 {
-    gather(&area[..], room, &op.objects, op.count, answer);
-    scatter(area, room, &op.seconds, op.count, &answer[..]);
+    read_out(&area[..], room, &op.objects, op.count, answer);
+    store_copies(area, room, &op.seconds, op.count, &answer[..]);
 }

@@ -5,11 +5,11 @@ use Rattle.effect.proofs.Carrying.{copy-answer, copy-whole}
 use Rattle.effect.proofs.transfers.copy_contents.Statement.{statement}
 use Rattle.effect.proofs.transfers.copy_contents.Tie as tie
 
-gather-requires : tie.Need-gather-requires
-gather-requires c κs = search needs
+read-out-requires : tie.Need-read-out-requires
+read-out-requires c κs = search needs
 
-scatter-requires : tie.Need-scatter-requires
-scatter-requires c κs = search needs
+store-copies-requires : tie.Need-store-copies-requires
+store-copies-requires c κs = search needs
 
 same-length : tie.Need-same-length
 same-length c = search needs
@@ -22,4 +22,4 @@ returns c = (search copy-whole, search copy-answer)
 
 pub copy-contents-spec : {M : Type 1} → statement M
 copy-contents-spec =
-    tie.close (tie.spec gather-requires scatter-requires same-length same-length-2 returns)
+    tie.close (tie.spec read-out-requires store-copies-requires same-length same-length-2 returns)

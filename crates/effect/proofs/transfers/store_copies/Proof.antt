@@ -1,13 +1,14 @@
--- `effect::transfers::scatter` meets its contract: after i turns the first i destinations are stored. Assumes nothing.
+-- `effect::transfers::store_copies` meets its contract: after i turns the first i destinations are stored.
+-- Assumes nothing.
 use Prim.Native.Nat.{_-_, _≤_}
 use mathlib.Core.Path.{_≡_, refl}
 use lib.ListN.{length}
 use borrow.Author.Needs.{needs}
 use Rattle.model.specs.State.{view}
 use Rattle.effect.specs.Transfers.{restored}
-use Rattle.effect.proofs.Carrying.{scatter-none, scatter-on, scatter-end}
-use Rattle.effect.proofs.transfers.scatter.Statement.{statement}
-use Rattle.effect.proofs.transfers.scatter.Tie as tie
+use Rattle.effect.proofs.Carrying.{store-copies-none, store-copies-on, store-copies-end}
+use Rattle.effect.proofs.transfers.store_copies.Statement.{statement}
+use Rattle.effect.proofs.transfers.store_copies.Tie as tie
 
 abbrev Inv-loop : tie.InvT-loop
 Inv-loop area₀ room seconds count answer i₀ area i = (i ≤ count) × (length area ≡ length area₀)
@@ -17,7 +18,7 @@ abbrev μ-loop : tie.MeasureT-loop
 μ-loop area₀ room seconds count answer i₀ area i = count - i
 
 loop-holds : tie.Need-loop-holds Inv-loop μ-loop
-loop-holds c = (search needs, refl, search scatter-none)
+loop-holds c = (search needs, refl, search store-copies-none)
 
 number-at-requires : tie.Need-number-at-requires Inv-loop μ-loop
 number-at-requires c κs = search needs
@@ -38,16 +39,16 @@ loop-less : tie.Need-loop-less Inv-loop μ-loop
 loop-less c = search needs
 
 loop-again : tie.Need-loop-again Inv-loop μ-loop
-loop-again c = (search needs, search needs, search scatter-on)
+loop-again c = (search needs, search needs, search store-copies-on)
 
 same-length : tie.Need-same-length Inv-loop μ-loop
 same-length c = search needs
 
 returns : tie.Need-returns Inv-loop μ-loop
-returns c = search scatter-end
+returns c = search store-copies-end
 
-pub scatter-spec : {M : Type 1} → statement M
-scatter-spec =
+pub store-copies-spec : {M : Type 1} → statement M
+store-copies-spec =
     tie.close
     (tie.spec
     Inv-loop

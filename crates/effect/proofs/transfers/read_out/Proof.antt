@@ -1,4 +1,4 @@
--- `effect::transfers::gather` meets its contract: after i turns the contents of the first i sources are in the answer
+-- `effect::transfers::read_out` meets its contract: after i turns the contents of the first i sources are in the answer
 -- area. Assumes nothing.
 use Prim.Native.Nat.{_-_, _≤_, _*_}
 use mathlib.Core.Path.{_≡_, refl}
@@ -7,9 +7,9 @@ use lib.ListN.{length, drop}
 use borrow.Author.Needs.{needs}
 use Rattle.model.specs.State.{contentBytes, view}
 use Rattle.effect.specs.Transfers.{operationOf, sources}
-use Rattle.effect.proofs.Carrying.{gather-none, gather-on, gather-end}
-use Rattle.effect.proofs.transfers.gather.Statement.{statement}
-use Rattle.effect.proofs.transfers.gather.Tie as tie
+use Rattle.effect.proofs.Carrying.{read-out-none, read-out-on, read-out-end}
+use Rattle.effect.proofs.transfers.read_out.Statement.{statement}
+use Rattle.effect.proofs.transfers.read_out.Tie as tie
 
 abbrev Inv-loop : tie.InvT-loop
 Inv-loop area room objects count answer₀ i₀ answer i = (i ≤ count) × (length answer ≡ length answer₀)
@@ -19,7 +19,7 @@ abbrev μ-loop : tie.MeasureT-loop
 μ-loop area room objects count answer₀ i₀ answer i = count - i
 
 loop-holds : tie.Need-loop-holds Inv-loop μ-loop
-loop-holds c = (search needs, refl, search gather-none)
+loop-holds c = (search needs, refl, search read-out-none)
 
 number-at-requires : tie.Need-number-at-requires Inv-loop μ-loop
 number-at-requires c κs = search needs
@@ -40,16 +40,16 @@ loop-less : tie.Need-loop-less Inv-loop μ-loop
 loop-less c = search needs
 
 loop-again : tie.Need-loop-again Inv-loop μ-loop
-loop-again c = (search needs, search needs, search gather-on)
+loop-again c = (search needs, search needs, search read-out-on)
 
 same-length : tie.Need-same-length Inv-loop μ-loop
 same-length c = search needs
 
 returns : tie.Need-returns Inv-loop μ-loop
-returns c = search gather-end
+returns c = search read-out-end
 
-pub gather-spec : {M : Type 1} → statement M
-gather-spec =
+pub read-out-spec : {M : Type 1} → statement M
+read-out-spec =
     tie.close
     (tie.spec
     Inv-loop
