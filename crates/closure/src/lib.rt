@@ -1,14 +1,14 @@
 // The transitive closure of descriptor writes (document 01: reach), behind questions 18, 19 and 20: sets of devices and
 // values as words, grown by the entries of values that devices come to read, and searched for an entry.
 pub mod answer;
-pub mod area;
-pub mod begin;
+mod area;
+mod begin;
 pub mod described;
-pub mod fine;
-pub mod grow;
-pub mod rules;
+mod fine;
+mod grow;
+mod rules;
 pub mod search;
-pub mod settle;
-pub mod spread;
+mod settle;
+mod spread;
 pub mod today;
-pub mod words;
+mod words;

@@ -45,7 +45,7 @@ fn listed(
 
 // An entry of value v, read by a device of the word d, that names an object which the device may not name; `fine` has
 // the devices that may.
-pub fn find<'a>(
+pub(crate) fn find<'a>(
     counts: Counts,
     count: &'a [u8; VALUE_SLOTS],
     entries: &'a [u8; ENTRY_SLOTS],

@@ -35,7 +35,7 @@ pub const READ_MODE: u8 = 1;
 
 pub const WRITE_MODE: u8 = 2;
 
-pub const BOTH_MODE: u8 = 3;
+const BOTH_MODE: u8 = 3;
 
 pub const MOST_MODE: u8 = BOTH_MODE;
 

@@ -129,7 +129,7 @@ fn read_deactivation(s: &[u8], code: usize, at: usize) -> Parse
 }
 
 // What follows the code; an unknown one is refused.
-pub fn arguments(s: &[u8], code: usize, at: usize) -> Parse
+pub(crate) fn arguments(s: &[u8], code: usize, at: usize) -> Parse
     ensures { λ r. ⌜ r ≡ afterCode (now (s .entry)) code at ⌝ }
 {
     match code {

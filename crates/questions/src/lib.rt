@@ -1,8 +1,8 @@
 // Questions 11 to 17 of an operation, over a configuration and a state area. `room` is how many object records the
 // area has.
 pub mod lookups;
-pub mod names;
-pub mod places;
+mod names;
+mod places;
 
 ghost use mathlib.Core.Path.{_≡_};
 ghost use lib.ListN.{length};

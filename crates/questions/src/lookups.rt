@@ -5,21 +5,21 @@ ghost use Rattle.model.specs.Config.{from1to};
 ghost use Rattle.model.specs.Questions.{ask};
 
 // Question n: its number where the answer is no, and else what the questions after it give.
-pub fn ask(n: u8, yes: bool, rest: u8) -> u8
+pub(crate) fn ask(n: u8, yes: bool, rest: u8) -> u8
     ensures { λ r. ⌜ r ≡ ask n yes rest ⌝ }
 {
     if yes { rest } else { n }
 }
 
 // Whether n is from 1 to high.
-pub fn from_1_to(n: usize, high: u8) -> bool
+pub(crate) fn from_1_to(n: usize, high: u8) -> bool
     ensures { λ r. ⌜ r ≡ from1to n high ⌝ }
 {
     (1 <= n) & (n <= (high as usize))
 }
 
 // The byte at place i.
-pub fn byte_at(s: &[u8], i: usize) -> u8
+pub(crate) fn byte_at(s: &[u8], i: usize) -> u8
     ensures { λ r. ⌜ r ≡ getD (now (s .entry)) i 0 ⌝ }
 {
     if i < s.len() { s[i] } else { 0 }

@@ -14,7 +14,7 @@ use model::MOST_DRIVERS;
 // device, and a record for each object: its partition, then its contents.
 pub const MOST_PARTITION: u8 = 63;
 
-pub const PARTITIONS: usize = MOST_PARTITION as usize + 1;
+pub(crate) const PARTITIONS: usize = MOST_PARTITION as usize + 1;
 
 pub const DRIVER_BYTES: usize = MOST_DRIVERS as usize;
 
@@ -23,7 +23,7 @@ pub const DEVICE_BYTES: usize = MOST_DEVICES as usize;
 pub const RECORD_BYTES: usize = CONTENT_BYTES + 1;
 
 // Where the drivers' bytes, the devices' bytes and the records begin.
-pub const DRIVERS_FROM: usize = PARTITIONS;
+pub(crate) const DRIVERS_FROM: usize = PARTITIONS;
 
 pub const DEVICES_FROM: usize = DRIVERS_FROM + DRIVER_BYTES;
 
@@ -36,4 +36,4 @@ pub const EXISTING: u8 = 1;
 
 pub const DESTROYED: u8 = 2;
 
-pub const MOST_STATUS: u8 = DESTROYED;
+pub(crate) const MOST_STATUS: u8 = DESTROYED;
