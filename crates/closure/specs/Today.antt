@@ -79,3 +79,10 @@ isDescribed m c n write w = described (m .config) (m .state) c (wanted (m .confi
 pub record Offers (count table : List ℕ) (v : ℕ) (ok : Entry → Bool) (r : Bool) : Type 0 where
   pub some : r ≡ true → (j : ℕ) × In (getD count v 0) j × (ok (entryAt table (entryPlace v j)) ≡ true)
   pub none : r ≡ false → (j : ℕ) → In (getD count v 0) j → ok (entryAt table (entryPlace v j)) ≡ true → ⊥
+
+-- a value of the word x, one up to n, has an entry that passes; or if r is false, none has
+pub record Offered (n : ℕ) (count table : List ℕ) (x : ℕ) (ok : Entry → Bool) (r : Bool) : Type 0 where
+  pub some : r ≡ true → (v : ℕ) × (v ≤ n) × (bit x v ≡ 1) × (j : ℕ) × In (getD count v 0) j
+      × (ok (entryAt table (entryPlace v j)) ≡ true)
+  pub none : r ≡ false → (v j : ℕ) → v ≤ n → bit x v ≡ 1 → In (getD count v 0) j
+      → ok (entryAt table (entryPlace v j)) ≡ true → ⊥

@@ -7,7 +7,7 @@ ghost use mathlib.Core.Bool.{false};
 ghost use Prim.Native.Nat.{ℕ, _≤_};
 ghost use Rattle.model.specs.Config.{entryAt};
 ghost use Rattle.closure.specs.Scene.{Scene, following, ValuesOk, EntryOk};
-ghost use Rattle.closure.specs.Today.{gives, describes, isDescribed, Today, Offers};
+ghost use Rattle.closure.specs.Today.{gives, describes, isDescribed, Today, Offers, Offered};
 use model::Counts;
 use model::ENTRY_BYTES;
 use model::ENTRY_SLOTS;
@@ -73,8 +73,8 @@ fn is_offering<'a>(
     false
 }
 
-// An entry of a value of the word x, those that a device reads with today's values, describes the transfer: a read of
-// the object, or a write to it, of value w if it is of kind 1.
+// An entry of a value of the word x describes the transfer: a read of the object, or a write to it, of value w if it is
+// of kind 1. If x has the values that a device reads with today's values, this is question 18 of that device.
 pub fn is_described<'a>(
     counts: Counts,
     kind: &'a [u8; OBJECT_SLOTS],
@@ -91,6 +91,9 @@ pub fn is_described<'a>(
         → Today (following m counts (now (kind .entry)) (now (count .entry)) (now (entries .entry)) false) c x
         → r ≡ isDescribed (following m counts (now (kind .entry)) (now (count .entry)) (now (entries .entry)) false) c
         object write w) ⌝ }
+    ensures { λ r.
+        ⌜ Offered (counts .values) (now (count .entry)) (now (entries .entry)) x
+        (describes (now (kind .entry)) object write w) r ⌝ }
 {
     let last = counts.values as usize;
     let mut v = words::next(x, 0);

@@ -1,7 +1,7 @@
 -- `closure::described::is_described` meets its contract: no value of the word below v offers an entry. Assumes nothing.
 use borrow.Author.Needs.{needs}
 use lib.ListN.{getD}
-use mathlib.Core.Bool.{true, false}
+use mathlib.Core.Bool.{true, false, true≢false, false≢true}
 use mathlib.Core.Path.{_≡_}
 use native.Mathlib.Omega.{arith}
 use Prim.Native.Nat.{ℕ, _≤_, _<_, _-_}
@@ -46,9 +46,11 @@ returns c =
     (now (a .args .entries)) false .config in
     let b = c .before .before .before .loop in
     let (j, i, k) = c .before .is-offering .ensures .some (c .if1 .taken) in
-    λ m d t. described-found (s m) (m .state) (a .args .object) (a .args .write) (a .args .w) (a .args .x) d t
-    (a .pre .no-entries)
-    (b .v) j (b .inv .1 (omega (arith, a .pre .few-values))) i k
+    let set = b .inv .1 (omega (arith, a .pre .few-values)) in (
+      λ m d t. described-found (s m) (m .state) (a .args .object) (a .args .write) (a .args .w) (a .args .x) d t
+          (a .pre .no-entries) (b .v) j set i k,
+      record { some = λ e. (b .v, omega arith, set, j, i, k); none = λ e. absurd (true≢false e) },
+    )
 
 add-next : tie.Need-add-next Inv-loop μ-loop
 add-next c = omega (arith, c .before .before .before .before .before .before .pre .few-values)
@@ -82,9 +84,11 @@ returns-2 c =
     let a = c .before .before .before .before in
     let b = c .before .loop in
     let s : Scene → Config = λ m. following m (a .args .counts) (now (a .args .kind)) (now (a .args .count))
-    (now (a .args .entries)) false .config in
-    λ m d t. described-not (s m) (m .state) (a .args .object) (a .args .write) (a .args .w) (a .args .x) d t
-    (λ v j few h i k. b .inv .2 v (omega arith) h j i k)
+    (now (a .args .entries)) false .config in (
+      λ m d t. described-not (s m) (m .state) (a .args .object) (a .args .write) (a .args .w) (a .args .x) d t
+          (λ v j few h i k. b .inv .2 v (omega arith) h j i k),
+      record { some = λ e. absurd (false≢true e); none = λ e v j few h i k. b .inv .2 v (omega arith) h j i k },
+    )
 
 pub is-described-spec : {M : Type 1} → statement M
 is-described-spec =
