@@ -1,10 +1,10 @@
 -- The whole text by its ways out: `long`, `line`, and the rows of a session.
 use Prim.Native.Nat.{ℕ, zero, suc, _≤_, _<_}
 use mathlib.Core.Path.{_≡_, refl, sym, ap, _∙_, subst}
-use mathlib.Core.List.{List, [], _∷_}
+use mathlib.Core.List.{List, [], _∷_, _++_}
 use native.Mathlib.Nat.{not-suc-le-zero, le-of-suc-le-suc}
 use native.Mathlib.Omega.{arith}
-use lib.ListN.{length, take}
+use lib.ListN.{length, drop}
 use lib.Seq.{length-take-le}
 use borrow.Author.Tests.{lt-ltb, le-ltb}
 use Rattle.model.specs.ConfigFile.{load}
@@ -23,7 +23,7 @@ use Rattle.model.specs.Office.{
 }
 use Rattle.model.proofs.OfficeLength.{reported-length}
 use Rattle.report.specs.Page.{laid, reaches, Put, Counts}
-use Rattle.report.proofs.Laying.{put-same}
+use Rattle.report.proofs.Laying.{laid-nil, put-same}
 
 module _ (file session : List ℕ) where
   judged : length file ≤ mostFile → length session ≤ mostSession
@@ -63,9 +63,9 @@ module _ (file session out : List ℕ) {r : ℕ} {out′ : List ℕ} where
           subst (λ (t : List ℕ). Put t 0 out r out′) (sym (judged file session l m ∙ rw (← e, z))) p
 
 -- ---- an area with room for every text
-laid-whole : (t out : List ℕ) → length t ≤ length out → take (length t) (laid t 0 out) ≡ t
+laid-whole : (t out : List ℕ) → length t ≤ length out → laid t 0 out ≡ t ++ drop (length t) out
 unfolding laid
-laid-whole [] out h = refl
+laid-whole [] out h = laid-nil 0 out
 laid-whole (b ∷ t) [] h = absurd (not-suc-le-zero h)
 laid-whole (b ∷ t) (o ∷ out) h = ap (λ (r : List ℕ). b ∷ r) (laid-whole t out (le-of-suc-le-suc h))
 
@@ -74,12 +74,12 @@ module _ (file session out : List ℕ) (room : length out ≡ mostText) {r : ℕ
   fits : length (reported file session) ≤ length out
   fits = rw room (reported-length file session)
 
-  counted : r ≡ length (reported file session)
+  pub counted : r ≡ length (reported file session)
   unfolding reaches
   counted = omega (arith, p .0, fits)
 
-  pub whole : take r out′ ≡ reported file session
-  whole = rw (counted, p .1) (laid-whole (reported file session) out fits)
+  pub whole : out′ ≡ reported file session ++ drop (length (reported file session)) out
+  whole = p .1 ∙ laid-whole (reported file session) out fits
 
   pub counts : Counts r out′
   counts =

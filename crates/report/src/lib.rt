@@ -3,7 +3,8 @@ mod page;
 mod rows;
 
 ghost use mathlib.Core.Path.{_≡_};
-ghost use lib.ListN.{take};
+ghost use mathlib.Core.List.{_++_};
+ghost use lib.ListN.{length, drop};
 ghost use Rattle.model.specs.Office.{longRow, lineRow, judgedText, reported};
 ghost use Rattle.report.specs.Page.{Put, Counts};
 use gate::ANSWER_BYTES;
@@ -57,7 +58,7 @@ fn put_session(line: &[u8], session: &[u8], out: &mut [u8]) -> usize
 
 // Puts down what the office program writes for these two files, as far as there is room, and answers how many bytes
 // that are. A file is given with at most one byte more than it may have.
-pub fn report(line: &[u8], session: &[u8], out: &mut [u8]) -> usize
+fn report(line: &[u8], session: &[u8], out: &mut [u8]) -> usize
     ensures { λ r.
         ⌜ Put (reported (now (line .entry)) (now (session .entry))) 0 (now (out .entry)) r (now (out .exit)) ⌝ }
 {
@@ -74,9 +75,12 @@ pub fn report(line: &[u8], session: &[u8], out: &mut [u8]) -> usize
     put_session(line, session, out)
 }
 
-// The same in an area that has room for every text: the bytes answered are the whole of it.
+// The same in an area that has room for every text: the whole of it, and every byte behind it as it was.
 pub fn report_whole(line: &[u8], session: &[u8], out: &mut [u8; MOST_TEXT]) -> usize
-    ensures { λ r. ⌜ take r (now (out .exit)) ≡ reported (now (line .entry)) (now (session .entry)) ⌝ }
+    ensures { λ r. ⌜ r ≡ length (reported (now (line .entry)) (now (session .entry))) ⌝ }
+    ensures { λ _.
+        ⌜ now (out .exit) ≡ reported (now (line .entry)) (now (session .entry))
+        ++ drop (length (reported (now (line .entry)) (now (session .entry)))) (now (out .entry)) ⌝ }
     ensures { λ r. ⌜ Counts r (now (out .exit)) ⌝ }
 {
     report(line, session, out)

@@ -14,8 +14,11 @@ returns : tie.Need-returns
 returns c =
     let c₁ = c .before .before .before .before in let a = c₁ .args in let room : length (a .out .now) ≡ mostText =
     search needs in (
-      Reporting.whole (a .line .now) (a .session .now) (a .out .now) room (c .report .ensures),
-      Reporting.counts (a .line .now) (a .session .now) (a .out .now) room (c .report .ensures),
+      Reporting.counted (a .line .now) (a .session .now) (a .out .now) room (c .report .ensures),
+      (
+        Reporting.whole (a .line .now) (a .session .now) (a .out .now) room (c .report .ensures),
+        Reporting.counts (a .line .now) (a .session .now) (a .out .now) room (c .report .ensures),
+      ),
     )
 
 pub report-whole-spec : {M : Type 1} → statement M
