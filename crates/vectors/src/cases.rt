@@ -1,6 +1,6 @@
 // One stored case: what is called, and the row that it gives.
 ghost use mathlib.Core.Path.{_≡_};
-ghost use Prim.Native.Nat.{_<_};
+ghost use Prim.Native.Nat.{_+_, _*_, _<_};
 ghost use lib.ListN.{length};
 use model::MOST_ITEMS;
 use model::MOST_OBJECTS;
@@ -30,13 +30,14 @@ const OLD_BYTE: u8 = 170;
 
 const PATCH_BYTES: usize = 3;
 
-pub struct Row {
+pub(crate) struct Row {
     pub answer: u32,
     pub left: u64,
 }
 
 // A number in two bytes, lower byte first.
-pub fn two(low: u8, high: u8) -> usize
+pub(crate) fn two(low: u8, high: u8) -> usize
+    ensures { λ r. ⌜ r ≡ low + 256 * high ⌝ }
     ensures { λ r. ⌜ r < 65536 ⌝ }
 {
     (low as usize) + 256 * (high as usize)
@@ -192,7 +193,7 @@ fn judge_formed(bytes: &[u8]) -> Row {
     }
 }
 
-pub fn judge(call: u8, bytes: &[u8]) -> Row {
+pub(crate) fn judge(call: u8, bytes: &[u8]) -> Row {
     match call {
         LOAD => Row {
             answer: gate::gate_load_check(bytes),

@@ -2,7 +2,6 @@
 // what the call left (0 where it leaves nothing). tests/vectors.py says what a case is.
 mod cases;
 
-ghost use Prim.Native.Nat.{_<_};
 use cases::Row;
 use libc::STDOUT_FILENO;
 
