@@ -2,7 +2,7 @@
 -- refused by 19 or 20 exactly where the rules of the closure give an entry for it.
 use Prim.Native.Nat.{ℕ, zero, suc}
 use mathlib.Core.Path.{_≡_, refl, sym, ap, _∙_, subst}
-use mathlib.Core.Logic.{_↔_, _⊎_, inl, inr}
+use mathlib.Core.Logic.{_↔_, inl, inr}
 use mathlib.Core.List.{List}
 use mathlib.Core.Bool.{true, false≢true}
 use native.Mathlib.Omega.{arith}
@@ -10,12 +10,12 @@ use lib.ListN.{length}
 use lib.Dec.{leb, eqb}
 use borrow.Author.Tests.{eqb-true, eq-eqb, le-leb, leb-true}
 use Rattle.model.specs.ConfigFile.{load}
-use Rattle.model.specs.State.{State, records, areaLength, view, wellFormed}
+use Rattle.model.specs.State.{State, records, areaLength, wellFormed}
 use Rattle.model.specs.Closure.{active}
 use Rattle.model.specs.Operation.{familyOf, actorOf, readOperation}
 use Rattle.model.specs.Effect.{answerBytes, apply, concerned}
 use Rattle.model.specs.Questions.{itself, judge}
-use Rattle.model.specs.Gate.{orElse, verdict, outcome, applied, judged, operate}
+use Rattle.model.specs.Gate.{orElse, verdict, outcome, applied, operate}
 use Rattle.model.specs.Demand2 as D
 use Rattle.model.specs.Demand2.{
   configIn,
@@ -41,7 +41,6 @@ use Rattle.model.specs.declared.Config.{Config}
 use Rattle.model.specs.declared.Operation.{Operation}
 use Rattle.model.proofs.ClosureLaws.{reads-active}
 use Rattle.model.proofs.FileQuestions.{file-yes}
-use Rattle.model.proofs.Facts.{Passed}
 use Rattle.model.proofs.Demand2.{
   ask-true,
   Upto18,

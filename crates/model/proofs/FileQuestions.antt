@@ -1,16 +1,16 @@
 -- Questions 1 to 6: `load` answers 0 exactly if each is a yes. What is read goes on exactly as long as the numbers that
 -- are asked for pass, by one law for each way in which readings are joined.
-use Prim.Native.Nat.{ℕ, zero, suc, _+_, _≤_, _<_}
+use Prim.Native.Nat.{ℕ, zero, suc, _+_, _≤_}
 use mathlib.Core.Path.{_≡_, refl, sym, ap, _∙_, subst}
 use mathlib.Core.Logic.{_↔_}
 use mathlib.Core.List.{List, [], _∷_, _++_, List·Memᴰ, List·Memᴰ·head, List·Memᴰ·tail}
-use mathlib.Core.Bool.{Bool, true, false, cond, _&&_, true≢false, false≢true}
+use mathlib.Core.Bool.{Bool, true, false, cond, _&&_, false≢true}
 use native.Mathlib.Omega.{arith}
-use lib.ListN.{length, drop}
+use lib.ListN.{length}
 use lib.Dec.{ltb, leb, eqb}
 use borrow.Author.Tests.{eqb-true, eq-eqb, lt-ltb, ltb-true, le-leb, leb-true}
 use Rattle.model.specs.Base.{all}
-use Rattle.model.specs.Number.{lead, valueOf, formed, formAt, headAt, numberAt}
+use Rattle.model.specs.Number.{lead, formed, formAt, headAt, numberAt}
 use Rattle.model.specs.Config.{
   mostDrivers,
   mostDevices,
@@ -37,12 +37,9 @@ use Rattle.model.specs.ConfigFile.{
   countsAt,
   ownerLeast,
   ownerMost,
-  setObject,
   object,
-  setDevice,
   device,
   storedMost,
-  setEntry,
   entry,
   setCount,
   value,

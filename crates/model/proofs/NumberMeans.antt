@@ -1,11 +1,11 @@
 -- What the reader's answer means is what questions 1 and 2 ask of the number.
-use Prim.Native.Nat.{ℕ, _+_}
+use Prim.Native.Nat.{ℕ}
 use mathlib.Core.Path.{_≡_, refl, ap, _∙_}
 use mathlib.Core.List.{List, [], _∷_}
 use mathlib.Core.Bool.{Bool, true, false, cond}
 use lib.ListN.{length, drop}
 use lib.Dec.{ltb}
-use Rattle.model.specs.Number.{lead, valueOf, formed, formAt, headAt, numberAt, numMeans, meantHead, meantAt}
+use Rattle.model.specs.Number.{lead, formed, formAt, headAt, numberAt, numMeans, meantHead, meantAt}
 use Rattle.model.specs.declared.Fault.the-variants.{Cut, Form}
 use Rattle.model.specs.declared.Num.{Num}
 use Rattle.model.specs.declared.Num.the-variants.{Got, Bad}

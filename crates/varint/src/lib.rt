@@ -1,12 +1,12 @@
 // The number reader (document 01, 'Line file'; questions 1 and 2): canonical LEB128 in at most three bytes.
 ghost use mathlib.Core.Path.{_≡_};
-ghost use Prim.Native.Nat.{_+_, _≤_, _<_};
+ghost use Prim.Native.Nat.{_+_, _<_};
 ghost use lib.ListN.{length, drop};
 ghost use Rattle.model.specs.Number.{mostBytes, lead, valueOf, numberAt, numMeans, meantAt};
-pub use model::Fault;
+use model::Fault;
 use model::MOST_BYTES;
 use model::MOST_NUMBER;
-pub use model::Num;
+use model::Num;
 
 fn wide(b: u8) -> usize
     ensures { λ r. ⌜ (r ≡ b) × (r < 256) ⌝ }
