@@ -1,11 +1,9 @@
 pub mod Lists
 pub mod Columns
 pub mod Entries
-pub mod NumberMeans
 pub mod Turns
 pub mod Groups
 pub mod Accepted
-pub mod FileQuestions
 pub mod Hardcoded
 pub mod ClosureLaws
 pub mod Confinement
@@ -29,9 +27,11 @@ pub mod Reached
 pub mod Demand2
 pub mod OperationRange
 pub mod Answers
-pub mod Demand2Calls
-pub mod FreshAnswers
 pub mod OfficeLaws
 pub mod AnswerRange
 pub mod OfficeLength
 pub mod Programs
+pub mod NumberMeans
+pub mod FileQuestions
+pub mod Demand2Calls
+pub mod FreshAnswers

@@ -5,7 +5,8 @@ use mathlib.Core.List.{List, [], _∷_}
 use mathlib.Core.Bool.{Bool, true, false, cond}
 use lib.ListN.{length, drop}
 use lib.Dec.{ltb}
-use Rattle.model.specs.Number.{lead, formed, formAt, headAt, numberAt, numMeans, meantHead, meantAt}
+use Rattle.model.specs.Number.{lead, formed, formAt, headAt, numberAt}
+use Rattle.model.specs.NumberMeans.{numMeans, meantHead, meantAt}
 use Rattle.model.specs.declared.Fault.the-variants.{Cut, Form}
 use Rattle.model.specs.declared.Num.{Num}
 use Rattle.model.specs.declared.Num.the-variants.{Got, Bad}

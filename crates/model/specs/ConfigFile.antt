@@ -5,7 +5,7 @@ use mathlib.Core.Bool.{Bool, true, false, not, cond, _&&_, _||_}
 use lib.ListN.{length, getD, set}
 use lib.Dec.{leb, eqb}
 use Rattle.model.specs.Base.{all, every}
-use Rattle.model.specs.Number.{numberAt, numMeans}
+use Rattle.model.specs.Number.{numberAt}
 use Rattle.model.specs.Config.{
   mostDrivers,
   mostDevices,
@@ -28,6 +28,7 @@ use Rattle.model.specs.Config.{
   Entry,
   entries,
 }
+use Rattle.model.specs.NumberMeans.{numMeans}
 use Rattle.model.specs.declared.Num.{Num}
 use Rattle.model.specs.declared.Num.the-variants.{Got, Bad}
 use Rattle.model.specs.declared.Field.{Field}

@@ -13,19 +13,8 @@ use native.Mathlib.Omega.{arith}
 use Rattle.model.specs.declared.Fault.the-variants.{Cut, Form}
 use Rattle.model.specs.declared.Num.{Num}
 use Rattle.model.specs.declared.Num.the-variants.{Got, Bad}
-use Rattle.model.specs.Number.{
-  mostNumber,
-  mostBytes,
-  lead,
-  valueOf,
-  shortest,
-  formed,
-  formAt,
-  headAt,
-  numberAt,
-  numMeans,
-  meantAt,
-}
+use Rattle.model.specs.Number.{mostNumber, mostBytes, lead, valueOf, shortest, formed, formAt, headAt, numberAt}
+use Rattle.model.specs.NumberMeans.{numMeans, meantAt}
 use Rattle.model.proofs.NumberMeans.{means-at}
 
 module _ (s : List ℕ) (i : ℕ) where

@@ -2,7 +2,8 @@
 ghost use mathlib.Core.Path.{_≡_};
 ghost use Prim.Native.Nat.{_+_, _<_};
 ghost use lib.ListN.{length, drop};
-ghost use Rattle.model.specs.Number.{mostBytes, lead, valueOf, numberAt, numMeans, meantAt};
+ghost use Rattle.model.specs.Number.{mostBytes, lead, valueOf, numberAt};
+ghost use Rattle.model.specs.NumberMeans.{numMeans, meantAt};
 use model::Fault;
 use model::MOST_BYTES;
 use model::MOST_NUMBER;
