@@ -82,7 +82,7 @@ def dense(devices=16, objects=96, values=47, seed=1, last=False):
 
 
 def chain(devices=16, objects=96, values=47):
-    """Each value stores the next one into the descriptor below and reads it: one step a sweep, against its order."""
+    """Each value stores the next one into the descriptor below and reads it, against the order of the objects."""
     line = Line(min(16, devices), devices, objects, values)
     line.hardcoded[devices] = 1
     line.values[1] = [(objects, READ, 0)]

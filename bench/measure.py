@@ -15,8 +15,8 @@ TIMES = 100
 REFERENCE_TIMES = 5
 
 
-def run(*words):
-    done = subprocess.run([str(w) for w in words], capture_output=True, text=True, cwd=TOP)
+def run(*words, **more):
+    done = subprocess.run([str(w) for w in words], capture_output=True, text=True, cwd=TOP, **more)
     if done.returncode:
         sys.exit(f"{words[0]}: {done.stdout}{done.stderr}")
     return done

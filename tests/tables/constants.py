@@ -4,7 +4,7 @@ import re
 
 from data import ROOT, Fault
 
-CONSTANT = re.compile(r"^(?:pub )?const (\w+): \w+ = ([^;]+);", re.MULTILINE)
+CONSTANT = re.compile(r"^(?:pub(?:\(crate\))? )?const (\w+): \w+ = ([^;]+);", re.MULTILINE)
 IMPORT = re.compile(r"^use (\w+)::(\w+);", re.MULTILINE)
 DEFINE = re.compile(r"^#define (\w+) (\d+)$", re.MULTILINE)
 SIGNS = {ast.Add: lambda a, b: a + b, ast.Sub: lambda a, b: a - b, ast.Mult: lambda a, b: a * b}

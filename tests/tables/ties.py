@@ -70,7 +70,7 @@ def check_questions():
 
 def arms(function):
     """The arms of a function of crates/operation that is one match over the code: its ranges, and what follows."""
-    body = re.search(rf"^(?:pub )?fn {function}\(.*?match code {{(.*?)^    }}", text_of(CODES),
+    body = re.search(rf"^(?:pub(?:\(crate\))? )?fn {function}\(.*?match code {{(.*?)^    }}", text_of(CODES),
                      re.DOTALL | re.MULTILINE)
     if not body:
         raise Fault(f"{CODES} has no match over the code in {function}")

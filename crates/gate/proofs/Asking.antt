@@ -191,10 +191,10 @@ q19-next config room area op f a ready asked h k {s} e p =
     ∙ q19-after config (view room area) op f a h k)
 
 -- question 19: what is searched is the area s that the operation leaves
-module _ (config : Config) (room : ℕ) {s t : List ℕ} (e : s ≡ t) where
-  pub searched-at : Searchable config room t → Searchable config room s
-  searched-at h = subst (Searchable config room) (sym e) h
+pub searched-at : (config : Config) (room : ℕ) (s t : List ℕ) → s ≡ t → Searchable config room t
+    → Searchable config room s
+searched-at config room s t e h = subst (Searchable config room) (sym e) h
 
-  pub confined-at : {r : Bool} → r ≡ confined config (view room s)
-      → (r ≡ confined config (view room t)) × (s ≡ t)
-  confined-at h = (h ∙ ap (λ (x : List ℕ). confined config (view room x)) e, e)
+pub confined-at : (config : Config) (room : ℕ) (s t : List ℕ) → s ≡ t → (r : Bool) → r ≡ confined config (view room s)
+    → (r ≡ confined config (view room t)) × (s ≡ t)
+confined-at config room s t e r h = (h ∙ ap (λ (x : List ℕ). confined config (view room x)) e, e)

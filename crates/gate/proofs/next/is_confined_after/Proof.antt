@@ -9,15 +9,14 @@ follow-requires : tie.Need-follow-requires
 follow-requires c κs = search needs
 
 is-confined-requires : tie.Need-is-confined-requires
-is-confined-requires c κs =
-    let d = c .before .before .before in
-    Asking.searched-at _ _ (d .follow .ensures) (d .before .before .before .before .pre .1 .1)
+is-confined-requires c κs = search Asking.searched-at
 
 same-length : tie.Need-same-length
 same-length c = search needs
 
 returns : tie.Need-returns
-returns c = Asking.confined-at _ _ (c .before .before .before .before .follow .ensures) (c .is-confined .ensures)
+returns c =
+    Asking.confined-at _ _ _ _ (c .before .before .before .before .follow .ensures) _ (c .is-confined .ensures)
 
 pub is-confined-after-spec : {M : Type 1} → statement M
 is-confined-after-spec = tie.close (tie.spec follow-requires is-confined-requires same-length returns)
