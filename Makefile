@@ -65,6 +65,7 @@ check: $(library)
 	bash tests/lint.sh
 	bash tests/archive.sh
 	python3 tests/line_l.py
+	python3 tests/edits.py
 	bash tests/install.sh
 	python3 bench/stack.py
 	bash tests/bindings.sh
