@@ -50,6 +50,7 @@ use Rattle.model.proofs.Demand2.{
   copy-19,
   deactivate-20,
 }
+use Rattle.model.proofs.FreshAnswers.{or-zero}
 use Rattle.model.proofs.Answers as answers
 use Rattle.model.proofs.Answers.{answer-zero}
 
@@ -111,9 +112,6 @@ module _ (file area bytes answer : List ℕ) where
       }
 
   -- with 1 to 10 a yes, a call answers what 11 to 20 answer
-  or-zero : (n rest : ℕ) → n ≡ 0 → orElse n rest ≡ rest
-  or-zero n rest h = rw h
-
   answered : (n : ℕ) → (outcome n config op area answer) .0 ≡ n
   answered zero = refl
   answered (suc n) = refl

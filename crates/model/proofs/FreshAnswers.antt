@@ -19,6 +19,10 @@ use Rattle.model.proofs.Facts.{asked}
 use Rattle.model.proofs.Calls.{or-else-zero}
 use Rattle.model.proofs.Demand2.{ask-true}
 
+-- a question that is answered yes hands on
+pub or-zero : (n rest : ℕ) → n ≡ 0 → orElse n rest ≡ rest
+or-zero n rest h = rw h
+
 module _ (file area : List ℕ) where
   -- question 7
   abbrev long : Bool
@@ -32,9 +36,6 @@ module _ (file area : List ℕ) where
         (file-yes file .0 (h₆ .0), eqb-true _ _ (h₇ .0))),
     λ y. or-zero ((load file) .answer) _ (file-yes file .1 (y .0)) ∙ ask-true 7 long 0 (eq-eqb _ _ (y .1)),
   )
-    where
-      or-zero : (n rest : ℕ) → n ≡ 0 → orElse n rest ≡ rest
-      or-zero n rest h = rw h
 
   pub fresh-most : (makeFresh file area) .0 ≤ 7
   unfolding makeFresh
