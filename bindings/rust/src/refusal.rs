@@ -29,37 +29,44 @@ const TEXTS: [&str; 20] = [
 ];
 // end texts
 
+/// What is told of a number that a later version of the library has and this package has not.
+const UNKNOWN: &str = "a question that this package does not know; the library is of a later version";
+
 /// The first question that was answered with no. A refused call changed nothing.
 #[derive(Clone, Copy, Debug, PartialEq, Eq, PartialOrd, Ord, Hash)]
-pub struct Refusal(u8);
+pub struct Refusal(u32);
 
 impl Refusal {
-    /// How many questions there are.
-    pub const QUESTIONS: u8 = TEXTS.len() as u8;
+    /// How many questions this package knows.
+    pub const QUESTIONS: u32 = TEXTS.len() as u32;
 
-    /// The refusal with a question's number, 1 to `QUESTIONS`, as a log or another program tells it.
-    pub const fn new(number: u8) -> Option<Refusal> {
-        if number >= 1 && number <= Refusal::QUESTIONS { Some(Refusal(number)) } else { None }
+    /// The refusal with a question's number, as a log or another program tells it; 0 is none. A number above
+    /// `QUESTIONS` is one of a later version.
+    pub const fn new(number: u32) -> Option<Refusal> {
+        if number == 0 { None } else { Some(Refusal(number)) }
     }
 
-    /// The question's number, 1 to `QUESTIONS`.
-    pub const fn number(self) -> u8 {
+    /// The question's number, from 1 on.
+    pub const fn number(self) -> u32 {
         self.0
+    }
+
+    /// Whether this package knows the question.
+    pub const fn is_known(self) -> bool {
+        self.0 <= Refusal::QUESTIONS
     }
 
     /// What it means, in one line.
     pub const fn text(self) -> &'static str {
-        TEXTS[self.0 as usize - 1]
+        if self.is_known() { TEXTS[self.0 as usize - 1] } else { UNKNOWN }
     }
 
-    /// The result of a call that answered this number.
-    pub(crate) fn check(number: u32) -> Result<(), Refusal> {
-        if number == 0 {
-            return Ok(());
+    /// The result of a call that answered this number: every number but 0 is a refusal, also one that is not known.
+    pub(crate) const fn check(number: u32) -> Result<(), Refusal> {
+        match Refusal::new(number) {
+            None => Ok(()),
+            Some(refusal) => Err(refusal),
         }
-        // The library's contract gives 0 or a question's number for every input. Another is of another library.
-        let refusal = u8::try_from(number).ok().and_then(Refusal::new);
-        Err(refusal.expect("libgate.a answers 0 or the number of a question"))
     }
 }
 
@@ -70,3 +77,18 @@ impl Display for Refusal {
 }
 
 impl Error for Refusal {}
+
+#[cfg(test)]
+mod tests {
+    use super::{Refusal, TEXTS, UNKNOWN};
+
+    #[test]
+    fn a_number_of_a_later_version_is_a_refusal() {
+        for number in [Refusal::QUESTIONS + 1, u32::from(u8::MAX) + 1, u32::MAX] {
+            let refusal = Refusal::check(number).expect_err("only 0 is accepted");
+            assert_eq!((refusal.number(), refusal.text(), refusal.is_known()), (number, UNKNOWN, false));
+        }
+        assert_eq!(Refusal::check(0), Ok(()));
+        assert_eq!(Refusal::check(20).map_err(Refusal::text), Err(TEXTS[19]));
+    }
+}

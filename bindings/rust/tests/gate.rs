@@ -6,7 +6,7 @@ use std::error::Error;
 const LINE_L: [u8; 45] = *include_bytes!("../../../crates/office/data/line.bin");
 
 /// Document 01's sequence P, with its answers.
-const SEQUENCE_P: [(&[u8], u8); 16] = [
+const SEQUENCE_P: [(&[u8], u32); 16] = [
     (&[5, 1], 0),
     (&[5, 2], 0),
     (&[7, 1, 1], 0),
@@ -26,7 +26,7 @@ const SEQUENCE_P: [(&[u8], u8); 16] = [
 ];
 
 /// The number of a result; 0 if it is accepted.
-fn number(result: Result<(), Refusal>) -> u8 {
+fn number(result: Result<(), Refusal>) -> u32 {
     result.err().map_or(0, Refusal::number)
 }
 
@@ -51,21 +51,21 @@ fn sequence_p_has_its_answers_and_a_refusal_changes_nothing() {
 #[test]
 fn each_number_has_a_text_of_its_own() {
     let all: Vec<Refusal> = (1..=Refusal::QUESTIONS).filter_map(Refusal::new).collect();
-    assert_eq!(all.len(), usize::from(Refusal::QUESTIONS));
+    assert_eq!(all.len(), Refusal::QUESTIONS as usize);
     for (place, refusal) in all.iter().enumerate() {
-        assert_eq!(usize::from(refusal.number()), place + 1);
+        assert_eq!(refusal.number() as usize, place + 1);
+        assert!(refusal.is_known());
         assert!(!refusal.text().is_empty());
         assert_eq!(refusal.to_string(), format!("refused by question {}: {}", place + 1, refusal.text()));
         assert_eq!(all.iter().filter(|other| other.text() == refusal.text()).count(), 1);
     }
     assert_eq!(Refusal::new(0), None);
-    assert_eq!(Refusal::new(Refusal::QUESTIONS + 1), None);
 }
 
 /// Each example of the questions, through the binding, is refused by its own.
 #[test]
 fn the_examples_have_their_numbers() {
-    let folder = |number: u8| format!("{}/../../examples/questions/{number:02}", env!("CARGO_MANIFEST_DIR"));
+    let folder = |number: u32| format!("{}/../../examples/questions/{number:02}", env!("CARGO_MANIFEST_DIR"));
     let file = |number, name| std::fs::read(format!("{}/{name}", folder(number)));
     for expected in 1..=Refusal::QUESTIONS {
         let line = file(expected, "line.bin").expect("an example has a line file");
