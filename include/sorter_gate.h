@@ -4,8 +4,12 @@
  * Every call answers a number: 0 is accepted, any other is the first question of document 01 that is answered with no
  * (the list is below). Calls keep nothing between them, use no heap and no global, and always return.
  *
- * The caller lends byte areas by pointer and length. A pointer is valid for its length, and is not null, even at length
- * 0; no two areas overlap; nobody else touches them during the call. Any length and any content is answered.
+ * The caller lends byte areas by pointer and length. A pointer is valid for its length, of any alignment, and is not
+ * null, even at length 0. An area that is written (state, answer) overlaps no other area of the call, and nobody else
+ * touches it during the call; line and record are only read, may overlap each other, and nobody writes to them during
+ * the call. Any length and any content is answered.
+ *
+ * SPDX-License-Identifier: MIT
  */
 #ifndef SORTER_GATE_H
 #define SORTER_GATE_H
@@ -17,11 +21,45 @@
 extern "C" {
 #endif
 
-/* The length of a state area, and the least length of an answer area. */
-#define SORTER_GATE_STATE_BYTES 1728
-#define SORTER_GATE_ANSWER_BYTES 128
+/* The version of this header and of the archive beside it; the number is for comparing, a later version's is larger. */
+/* begin version: made by tests/tables from tables/release.ini */
+#define SORTER_GATE_VERSION_MAJOR 0
+#define SORTER_GATE_VERSION_MINOR 1
+#define SORTER_GATE_VERSION_PATCH 0
+#define SORTER_GATE_VERSION_NUMBER 1000
+#define SORTER_GATE_VERSION "0.1.0"
+/* end version */
 
-/* What a number means: the question that was answered with no. */
+/* begin sizes: made by tests/tables from tables/numbers.ini */
+/* The length of a state area. */
+#define SORTER_GATE_STATE_BYTES 1728
+/* The least length of an answer area. */
+#define SORTER_GATE_ANSWER_BYTES 128
+/* The length of the longest line file that can be accepted; refuse a longer one before you call. */
+#define SORTER_GATE_LONGEST_LINE 1202
+/* The length of the longest record that can be accepted; refuse a longer one before you call. */
+#define SORTER_GATE_LONGEST_RECORD 147
+/* end sizes */
+
+/* What a record begins with, and what follows it; docs/CONTROLLER.md, 'Records', says how an item is written. */
+/* begin codes: made by tests/tables from tables/codes.ini */
+enum sorter_gate_code {
+    SORTER_GATE_CODE_DRIVER_WRITE = 1,       /* then driver, count, items */
+    SORTER_GATE_CODE_CARD_WRITE = 2,         /* then card, count, items */
+    SORTER_GATE_CODE_DRIVER_READ = 3,        /* then driver, count, pairs: source, destination or 0 */
+    SORTER_GATE_CODE_CARD_READ = 4,          /* then card, count, pairs: source, destination or 0 */
+    SORTER_GATE_CODE_CREATE_PARTITION = 5,   /* then partition */
+    SORTER_GATE_CODE_DESTROY_PARTITION = 6,  /* then partition */
+    SORTER_GATE_CODE_ACTIVATE_DRIVER = 7,    /* then driver, partition */
+    SORTER_GATE_CODE_ACTIVATE_CARD = 8,      /* then card, partition */
+    SORTER_GATE_CODE_ACTIVATE_OBJECTS = 9,   /* then partition, count, objects */
+    SORTER_GATE_CODE_DEACTIVATE_DRIVER = 10, /* then driver */
+    SORTER_GATE_CODE_DEACTIVATE_CARD = 11,   /* then card */
+    SORTER_GATE_CODE_DEACTIVATE_OBJECTS = 12 /* then partition, count, objects */
+};
+/* end codes */
+
+/* What a number means: the question that was answered with no. A later version may have more: each is a refusal. */
 /* begin answers: made by tests/tables from tables/questions.ini */
 enum sorter_gate_answer {
     SORTER_GATE_ACCEPTED = 0,

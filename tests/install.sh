@@ -22,10 +22,32 @@ controllers() {
     echo "install: the controllers print $(wc -l < "$out/rows") rows as they should"
 }
 
+# The installed header and the installed pkg-config file name one version, and a host can compare it when it compiles.
+versions() {
+    told=$(PKG_CONFIG_PATH=$1/lib/pkgconfig pkg-config --modversion sorter_gate)
+    cat > "$out/version.c" << 'END'
+#include <stdio.h>
+#include <sorter_gate.h>
+#if SORTER_GATE_VERSION_NUMBER < 1000 || SORTER_GATE_VERSION_NUMBER >= SORTER_GATE_VERSION_MAJOR * 1000000 + 1000000
+#error "a number that cannot be compared"
+#endif
+int main(void) {
+    printf("%s %d.%d.%d\n", SORTER_GATE_VERSION, SORTER_GATE_VERSION_MAJOR, SORTER_GATE_VERSION_MINOR,
+           SORTER_GATE_VERSION_PATCH);
+}
+END
+    gcc -std=c11 -Wall -Wextra -Werror -I"$1/include" -o "$out/version" "$out/version.c"
+    if [ "$("$out/version")" != "$told $told" ]; then
+        echo "install: the header is of version $("$out/version"), the pkg-config file says $told" >&2
+        exit 1
+    fi
+}
+
 # install_twice PREFIX STAGE: into the prefix, and below a DESTDIR
 install_twice() {
     make -s install PREFIX="$1"
     controllers "$1"
+    versions "$1"
     make -s install DESTDIR="$2" PREFIX="$1"
     diff -r "$1" "$2$1"
     grep -qx "prefix=$1" "$2$1/lib/pkgconfig/sorter_gate.pc"

@@ -16,22 +16,22 @@ struct step {
 };
 
 static const struct step SEQUENCE_P[] = {
-    {{5, 1}, 2, 0, "create partition 1"},
-    {{5, 2}, 2, 0, "create partition 2"},
-    {{7, 1, 1}, 3, 0, "driver 1 into partition 1"},
-    {{8, 1, 1}, 3, 0, "card 1 into partition 1"},
-    {{8, 2, 2}, 3, 0, "card 2 into partition 2"},
-    {{9, 1, 1, 5}, 4, 0, "object 5 into partition 1"},
-    {{1, 1, 1, 2, 0, 3}, 6, 0, "driver 1 writes value 3 to object 2"},
-    {{12, 1, 1, 5}, 4, 20, "object 5 out: card 1 can still write it"},
-    {{1, 1, 1, 2, 0, 4}, 6, 19, "driver 1 writes value 4 to object 2: it names card 2's object"},
-    {{1, 1, 1, 2, 0, 5}, 6, 19, "driver 1 writes value 5 to object 2: a chain of two leads there"},
-    {{1, 1, 1, 4, 0, 3}, 6, 17, "driver 1 writes object 4, which is elsewhere"},
-    {{1, 1, 1, 1, 0, 0}, 6, 13, "driver 1 writes a hard-wired descriptor"},
-    {{1, 2, 1, 2, 0, 0}, 6, 16, "driver 2 is not active"},
-    {{6, 2}, 2, 15, "destroy partition 2: card 2 is in it"},
-    {{11, 2}, 2, 0, "card 2 out"},
-    {{6, 2}, 2, 0, "destroy partition 2"},
+    {{SORTER_GATE_CODE_CREATE_PARTITION, 1}, 2, 0, "create partition 1"},
+    {{SORTER_GATE_CODE_CREATE_PARTITION, 2}, 2, 0, "create partition 2"},
+    {{SORTER_GATE_CODE_ACTIVATE_DRIVER, 1, 1}, 3, 0, "driver 1 into partition 1"},
+    {{SORTER_GATE_CODE_ACTIVATE_CARD, 1, 1}, 3, 0, "card 1 into partition 1"},
+    {{SORTER_GATE_CODE_ACTIVATE_CARD, 2, 2}, 3, 0, "card 2 into partition 2"},
+    {{SORTER_GATE_CODE_ACTIVATE_OBJECTS, 1, 1, 5}, 4, 0, "object 5 into partition 1"},
+    {{SORTER_GATE_CODE_DRIVER_WRITE, 1, 1, 2, 0, 3}, 6, 0, "driver 1 writes value 3 to object 2"},
+    {{SORTER_GATE_CODE_DEACTIVATE_OBJECTS, 1, 1, 5}, 4, 20, "object 5 out: card 1 can still write it"},
+    {{SORTER_GATE_CODE_DRIVER_WRITE, 1, 1, 2, 0, 4}, 6, 19, "driver 1 writes value 4: it names card 2's object"},
+    {{SORTER_GATE_CODE_DRIVER_WRITE, 1, 1, 2, 0, 5}, 6, 19, "driver 1 writes value 5: a chain of two leads there"},
+    {{SORTER_GATE_CODE_DRIVER_WRITE, 1, 1, 4, 0, 3}, 6, 17, "driver 1 writes object 4, which is elsewhere"},
+    {{SORTER_GATE_CODE_DRIVER_WRITE, 1, 1, 1, 0, 0}, 6, 13, "driver 1 writes a hard-wired descriptor"},
+    {{SORTER_GATE_CODE_DRIVER_WRITE, 2, 1, 2, 0, 0}, 6, 16, "driver 2 is not active"},
+    {{SORTER_GATE_CODE_DESTROY_PARTITION, 2}, 2, 15, "destroy partition 2: card 2 is in it"},
+    {{SORTER_GATE_CODE_DEACTIVATE_CARD, 2}, 2, 0, "card 2 out"},
+    {{SORTER_GATE_CODE_DESTROY_PARTITION, 2}, 2, 0, "destroy partition 2"},
 };
 
 int main(void) {

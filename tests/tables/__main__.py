@@ -14,6 +14,7 @@ sys.path.insert(0, str(pathlib.Path(__file__).resolve().parent))
 from data import ROOT, Fault, questions  # noqa: E402
 from parts import PARTS, made_text, stored  # noqa: E402
 from prototypes import check_prototypes  # noqa: E402
+from release import check_release  # noqa: E402
 from ties import check_codes, check_figures, check_numbers, check_questions  # noqa: E402
 from words import check_words  # noqa: E402
 
@@ -29,6 +30,7 @@ def check():
     check_words()
     check_codes()
     check_prototypes()
+    check_release()
     check_figures()
     print(f"tables: {sum(map(len, PARTS.values()))} parts of {len(PARTS)} files are as the tables make them, and the "
           "tables as the library is")

@@ -8,7 +8,7 @@ GROUPS = ("line", "areas", "record", "operation")
 QUESTION_KEYS = {"group", "constant", "asked", "asks", "means", "definition", "header", "rust", "plan", "machine",
                  "remedy"}
 CODE_KEYS = {"does", "who", "fields", "manual", "plan"}
-NUMBER_KEYS = {"is", "rattle", "reference", "sum", "header", "rust", "python", "plan"}
+NUMBER_KEYS = {"is", "rattle", "reference", "sum", "header", "rust", "says", "python", "plan"}
 
 
 class Fault(Exception):

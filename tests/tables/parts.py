@@ -8,6 +8,7 @@ import re
 import textwrap
 
 from data import GROUPS, ROOT, Fault, codes, example_module, examples, questions, read
+from release import version_of_header
 
 COLUMNS, PAGE = 120, 118
 ACTORS = {"driver": "DRIVER", "card": "DEVICE", "nobody": "NOBODY"}
@@ -42,6 +43,57 @@ def enum_of_header():
         f"    {name:<{width}} /* {row['header']} */" for name, (_, row) in zip(names[1:], rows)] + ["};"]
 
 
+def sizes(key, row_of):
+    """The numbers that header or binding has, each behind what it is."""
+    made = []
+    for row in read("numbers.ini").values():
+        if key in row:
+            made += row_of(row[key], row["is"], row["says"])
+    return made
+
+
+def sizes_of_header():
+    return sizes("header", lambda name, number, says: [f"/* {says} */", f"#define {name} {number}"])
+
+
+def sizes_of_rust():
+    made = sizes("rust", lambda name, number, says: [f"/// {says}", f"pub const {name}: usize = {number};", ""])
+    return made[:-1]
+
+
+def code_name(row):
+    """A code's name, of what it does and to whom, which are held to crates/operation."""
+    does = row["does"].upper()
+    if row["does"] in ("write", "read"):
+        return f"{row['who'].upper()}_{does}"
+    moved = row["who"] if row["who"] != "nobody" else "objects" if "objects" in row["fields"] else "partition"
+    return f"{does}_{moved.upper()}"
+
+
+def named_codes():
+    """The codes in order, each with its name, what it does and what follows it in a record."""
+    rows = [(number, code_name(row), row["manual"], then_of(row)) for number, row in sorted(codes().items())]
+    if len({name for _, name, _, _ in rows}) != len(rows):
+        raise Fault("tables/codes.ini: two codes would have the same name")
+    return rows
+
+
+def codes_of_header():
+    rows = named_codes()
+    names = [f"SORTER_GATE_CODE_{name} = {number}," for number, name, _, _ in rows]
+    names[-1] = names[-1][:-1]
+    width = max(map(len, names))
+    return ["enum sorter_gate_code {"] + [f"    {name:<{width}} /* then {then} */"
+                                          for name, (_, _, _, then) in zip(names, rows)] + ["};"]
+
+
+def codes_of_rust():
+    made = []
+    for number, name, manual, then in named_codes():
+        made += [f"/// {manual[0].upper()}{manual[1:]}. Then {then}.", f"pub const {name}: u8 = {number};", ""]
+    return made[:-1]
+
+
 def texts_of_rust():
     rows = sorted(questions().items())
     return [f"const TEXTS: [&str; {len(rows)}] = ["] + [f"    {quoted(row['rust'])}," for _, row in rows] + ["];"]
@@ -72,11 +124,14 @@ def questions_of_plan():
                            if row["constant"] in ("OUTSIDE", "IN_REACH")]
 
 
+def then_of(row):
+    """What follows the code in a record."""
+    return ", ".join(FIELDS.get(field, row["who"]) for field in row["fields"].split(", "))
+
+
 def records_of_controller():
-    made = ["", "| Code | Operation | Then |", "|---|---|---|"]
-    for number, row in sorted(codes().items()):
-        then = ", ".join(FIELDS.get(field, row["who"]) for field in row["fields"].split(", "))
-        made.append(f"| {number} | {row['manual']} | {then} |")
+    made = ["", "| Code | `SORTER_GATE_CODE_` | Operation | Then |", "|---|---|---|---|"]
+    made += [f"| {number} | `{name}` | {manual} | {then} |" for number, name, manual, then in named_codes()]
     return made + [""]
 
 
@@ -118,7 +173,10 @@ def line_of_examples():
 
 
 PARTS = {
-    "include/sorter_gate.h": {"answers": enum_of_header},
+    "include/sorter_gate.h": {"version": version_of_header, "sizes": sizes_of_header, "codes": codes_of_header,
+                              "answers": enum_of_header},
+    "bindings/rust/src/lib.rs": {"sizes": sizes_of_rust},
+    "bindings/rust/src/code.rs": {"codes": codes_of_rust},
     "bindings/rust/src/refusal.rs": {"texts": texts_of_rust},
     "tools/planner/wording.py": {"limits": limits_of_plan, "codes": codes_of_plan, "questions": questions_of_plan},
     "docs/CONTROLLER.md": {"records": records_of_controller, "answers": answers_of_controller},

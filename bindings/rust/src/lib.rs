@@ -19,15 +19,27 @@
 #![no_std]
 #![warn(missing_docs)]
 
+pub mod code;
 mod refusal;
 
 pub use refusal::Refusal;
 
+// begin sizes: made by tests/tables from tables/numbers.ini
 /// The length of a state area.
 pub const STATE_BYTES: usize = 1728;
 
 /// The least length of an answer area.
 pub const ANSWER_BYTES: usize = 128;
+
+/// The length of the longest line file that can be accepted; refuse a longer one before you call.
+pub const LONGEST_LINE: usize = 1202;
+
+/// The length of the longest record that can be accepted; refuse a longer one before you call.
+pub const LONGEST_RECORD: usize = 147;
+// end sizes
+
+/// The version of this package and of the library that it is made for.
+pub const VERSION: &str = env!("CARGO_PKG_VERSION");
 
 unsafe extern "C" {
     fn gate_load_check(line: *const u8, line_len: usize) -> u32;

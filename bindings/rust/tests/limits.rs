@@ -1,0 +1,91 @@
+//! The named codes and the longest files and records: what the library makes of them.
+
+use sorter_gate::{ANSWER_BYTES, LONGEST_LINE, LONGEST_RECORD, STATE_BYTES, code, fresh, load_check, operate};
+
+/// A line with every count at its limit: 16 drivers, 16 cards, 96 objects, 47 values of six entries each. The first 16
+/// objects are the cards' hard-wired descriptors, the rest is external data.
+fn full_line() -> Vec<u8> {
+    let mut line = vec![1, 16, 16, 96, 47];
+    (1..=16).for_each(|card| line.extend([4, 2, card]));
+    (17..=96).for_each(|_| line.extend([3, 0, 0]));
+    line.extend([0; 16]);
+    (0..47).for_each(|_| line.extend([&[6][..], &[17, 1, 0].repeat(6)].concat()));
+    line
+}
+
+/// Carries records out on a fresh state of the full line, and gives the number of the last; the others are accepted.
+fn last_of(records: &[&[u8]]) -> u32 {
+    let (line, mut state, mut answer) = (full_line(), [0; STATE_BYTES], [0; ANSWER_BYTES]);
+    fresh(&line, &mut state).expect("the full line is accepted");
+    let (last, before) = records.split_last().expect("there is a record");
+    for record in before {
+        assert_eq!(operate(&line, &mut state, record, &mut answer), Ok(()), "{record:?}");
+    }
+    operate(&line, &mut state, last, &mut answer).err().map_or(0, |refusal| refusal.number())
+}
+
+#[test]
+fn the_longest_line_is_accepted_and_no_longer_one() {
+    let line = full_line();
+    assert_eq!(line.len(), LONGEST_LINE);
+    assert_eq!(load_check(&line), Ok(()));
+    for byte in 0..=u8::MAX {
+        assert!(load_check(&[&line[..], &[byte]].concat()).is_err());
+    }
+}
+
+#[test]
+fn the_longest_record_is_accepted_and_no_longer_one() {
+    let objects: Vec<u8> = (17..25).collect();
+    let before: [&[u8]; 3] = [
+        &[code::CREATE_PARTITION, 1],
+        &[code::ACTIVATE_DRIVER, 1, 1],
+        &[&[code::ACTIVATE_OBJECTS, 1, 8], &objects[..]].concat(),
+    ];
+    let mut record = vec![code::DRIVER_WRITE, 1, 8];
+    objects.iter().for_each(|object| record.extend([&[*object, 1], &[7; 16][..]].concat()));
+    assert_eq!(record.len(), LONGEST_RECORD);
+    assert_eq!(last_of(&[&before[..], &[&record]].concat()), 0);
+    record.push(0);
+    assert_eq!(last_of(&[&before[..], &[&record]].concat()), 10);
+}
+
+/// What each code does shows in what it lets follow.
+#[test]
+fn each_code_does_what_its_name_says() {
+    let create: &[u8] = &[code::CREATE_PARTITION, 1];
+    let (driver, card): (&[u8], &[u8]) = (&[code::ACTIVATE_DRIVER, 1, 1], &[code::ACTIVATE_CARD, 1, 1]);
+    let object: &[u8] = &[code::ACTIVATE_OBJECTS, 1, 1, 17];
+    let destroy: &[u8] = &[code::DESTROY_PARTITION, 1];
+    assert_eq!(last_of(&[create, create]), 14);
+    assert_eq!(last_of(&[create, destroy, destroy]), 14);
+    for (comes, leaves) in [
+        (driver, &[code::DEACTIVATE_DRIVER, 1][..]),
+        (card, &[code::DEACTIVATE_CARD, 1]),
+        (object, &[code::DEACTIVATE_OBJECTS, 1, 1, 17]),
+    ] {
+        assert_eq!(last_of(&[create, comes, destroy]), 15);
+        assert_eq!(last_of(&[create, comes, comes]), 16);
+        assert_eq!(last_of(&[create, comes, leaves, destroy]), 0);
+    }
+    assert_eq!(last_of(&[create, driver, object, &[code::DRIVER_READ, 1, 1, 17, 0]]), 0);
+    let contents = [7; 16];
+    let written = |code: u8| [&[code, 1, 1, 17, 1], &contents[..]].concat();
+    assert_eq!(last_of(&[create, driver, object, &written(code::DRIVER_WRITE)]), 0);
+    // A card does only what a descriptor tells it, and nothing tells this one anything.
+    assert_eq!(last_of(&[create, card, object, &[code::CARD_READ, 1, 1, 17, 0]]), 18);
+    assert_eq!(last_of(&[create, card, object, &written(code::CARD_WRITE)]), 18);
+}
+
+/// Line and record are only read: a record may stand inside the line file.
+#[test]
+fn line_and_record_may_overlap() {
+    let (line, mut state, mut answer) = (full_line(), [0; STATE_BYTES], [0; ANSWER_BYTES]);
+    fresh(&line, &mut state).expect("the full line is accepted");
+    // A value of the line begins as a record that destroys partition 17 does.
+    let inside = line.windows(2).rposition(|two| two == [code::DESTROY_PARTITION, 17]).expect("a value begins so");
+    let record = &line[inside..inside + 2];
+    let apart = operate(&line, &mut state.clone(), &[code::DESTROY_PARTITION, 17], &mut answer);
+    assert_eq!(apart.map_err(|refusal| refusal.number()), Err(14));
+    assert_eq!(operate(&line, &mut state, record, &mut answer), apart);
+}
