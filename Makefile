@@ -67,6 +67,7 @@ check: $(library)
 	python3 tests/line_l.py
 	python3 tests/edits.py
 	bash tests/install.sh
+	bash tests/storing.sh
 	python3 bench/stack.py
 	bash tests/bindings.sh
 	bash tests/questions.sh

@@ -9,17 +9,23 @@ trap 'rm -rf "$out"' EXIT
 # What the caller's environment or an outer make would say about the places.
 unset MAKEFLAGS MFLAGS DESTDIR PREFIX LIBDIR INCLUDEDIR
 
-# As docs/CONTROLLER.md tells the reader; the repository's own header is not on the path. Both programs end with 1 if an
-# answer is not the one that they expect. pkg-config writes a blank as the shell reads it, hence the eval.
+# As docs/CONTROLLER.md tells the reader; the repository's own header is not on the path. Both programs end with 1 if a
+# step does not go as it should. pkg-config writes a blank as the shell reads it, hence the eval.
 controllers() {
     words=$(PKG_CONFIG_PATH=$1/lib/pkgconfig pkg-config --cflags --libs sorter_gate)
-    for name in main restore; do
-        cp "examples/controller/$name.c" "$out"
-        (cd "$out" && eval "gcc -std=c11 -O2 -Wall -Wextra -Werror $name.c $words -o $name")
+    rows=0
+    for compiler in "gcc -std=c11" "g++ -x c++"; do
+        for name in main restore; do
+            cp "examples/controller/$name.c" "$out"
+            (cd "$out" && eval "$compiler -O2 -Wall -Wextra -Werror $name.c -x none $words -o $name")
+        done
+        rm -f "$out/state.bin"
+        # Two starts of the controller that stores its area.
+        ("$out/main" && "$out/restore" "$out/state.bin" && "$out/restore" "$out/state.bin") > "$out/rows"
+        grep -q 'state.bin: whole, and of this line' "$out/rows" || { cat "$out/rows" >&2; exit 1; }
+        rows=$((rows + $(wc -l < "$out/rows")))
     done
-    "$out/main" > "$out/rows"
-    "$out/restore" "$out/state.bin" >> "$out/rows"
-    echo "install: the controllers print $(wc -l < "$out/rows") rows as they should"
+    echo "install: the controllers, in C and in C++, print $rows rows as they should"
 }
 
 # The installed header and the installed pkg-config file name one version, and a host can compare it when it compiles.
@@ -28,8 +34,9 @@ versions() {
     cat > "$out/version.c" << 'END'
 #include <stdio.h>
 #include <sorter_gate.h>
-#if SORTER_GATE_VERSION_NUMBER < 1000 || SORTER_GATE_VERSION_NUMBER >= SORTER_GATE_VERSION_MAJOR * 1000000 + 1000000
-#error "a number that cannot be compared"
+#if SORTER_GATE_VERSION_NUMBER != \
+    SORTER_GATE_VERSION_MAJOR * 1000000 + SORTER_GATE_VERSION_MINOR * 1000 + SORTER_GATE_VERSION_PATCH
+#error "the version's number is not put together from its parts"
 #endif
 int main(void) {
     printf("%s %d.%d.%d\n", SORTER_GATE_VERSION, SORTER_GATE_VERSION_MAJOR, SORTER_GATE_VERSION_MINOR,

@@ -1,68 +1,190 @@
-// Keeps a state area over a restart: stores it after an accepted call, restores it, and looks at it before it is used.
+// Keeps a state area over a restart. Each run is one start of a controller: it restores the area of the last run, or
+// makes a fresh one if none is stored, looks at it, creates the next partition, and stores the area.
 //   restore FILE   prints each step; ends with status 1 if one does not go as it should
+// A controller takes over `store` and `restore`, which are for POSIX systems. docs/CONTROLLER.md says what they are
+// for.
+#define _POSIX_C_SOURCE 200809L
+#include <errno.h>
+#include <fcntl.h>
 #include <stdio.h>
 #include <string.h>
+#include <unistd.h>
 
 #include "sorter_gate.h"
 
-// A line with one driver and nothing else.
-static const uint8_t LINE[] = {1, 1, 0, 0, 0};
-static const uint8_t CREATE_1[] = {5, 1};
+// A stored file: a mark that names this form, the digest of the line file, the state area, the digest of all before.
+enum { LINE_AT = 8, STATE_AT = 16, SUM_AT = STATE_AT + SORTER_GATE_STATE_BYTES, FILE_BYTES = SUM_AT + 8 };
+enum { PATH_BYTES = 4096 };
+static const char MARK[] = "SGSTATE1";
 
-// A new file first, then the name: a power cut leaves the old area or the new one, and never half of one. A controller
-// also adds a checksum of the area and of the line file, and has the medium flushed before the name changes.
-static int store(const char *name, const uint8_t *state) {
-    char fresh[4096];
-    snprintf(fresh, sizeof fresh, "%s.new", name);
-    FILE *f = fopen(fresh, "wb");
-    if (!f) {
-        return 0;
+// What becomes of a restored file. Only a whole one may be used.
+enum stored { WHOLE, ABSENT, UNREADABLE, OTHER_LENGTH, OTHER_FORM, DAMAGED, OTHER_LINE };
+static const char *const SAYS[] = {
+    "whole, and of this line",
+    "nothing is stored yet",
+    "refused: it cannot be read",
+    "refused: it has another length",
+    "refused: it does not begin as a stored area does",
+    "refused: its checksum does not fit",
+    "refused: it was stored with another line file",
+};
+
+// FNV-1a of 64 bits: a checksum against damage, and a digest that tells one line file from another. One changed byte
+// always changes it; other damage might leave it as it was, by a rare chance. It has no key: whoever wants to can make
+// it fit, so that it is no protection against people.
+static uint64_t digest(const uint8_t *bytes, size_t count) {
+    uint64_t sum = 0xcbf29ce484222325u;
+    for (size_t i = 0; i < count; i++) {
+        sum = (sum ^ bytes[i]) * 0x100000001b3u;
     }
-    int whole = fwrite(state, 1, SORTER_GATE_STATE_BYTES, f) == SORTER_GATE_STATE_BYTES;
-    int closed = fclose(f) == 0;
-    return whole && closed && rename(fresh, name) == 0;
+    return sum;
 }
 
-static int restore(const char *name, uint8_t *state) {
+// Lowest byte first, on every machine.
+static void put(uint8_t *to, uint64_t number) {
+    for (int i = 0; i < 8; i++) {
+        to[i] = (uint8_t)(number >> 8 * i);
+    }
+}
+
+static int holds(const uint8_t *from, uint64_t number) {
+    uint8_t wanted[8];
+    put(wanted, number);
+    return memcmp(from, wanted, sizeof wanted) == 0;
+}
+
+// One call may write less than it was given.
+static int write_all(int file, const uint8_t *bytes, size_t count) {
+    size_t done = 0;
+    while (done < count) {
+        ssize_t n = write(file, bytes + done, count - done);
+        if (n == 0 || (n < 0 && errno != EINTR)) {
+            return 0;
+        }
+        done += n > 0 ? (size_t)n : 0;
+    }
+    return 1;
+}
+
+// A file whose bytes are on the device. After a flush that failed the bytes may be lost, and a second flush would not
+// tell: the file is written anew then, from the first byte.
+static int write_new(const char *name, const uint8_t *bytes, size_t count) {
+    int file = open(name, O_WRONLY | O_CREAT | O_TRUNC, 0644);
+    if (file < 0) {
+        return 0;
+    }
+    int flushed = write_all(file, bytes, count) && fsync(file) == 0;
+    return close(file) == 0 && flushed;
+}
+
+// The names of a folder are on the device only when the folder is flushed itself.
+static int flush_folder(const char *name) {
+    char folder[PATH_BYTES];
+    const char *slash = strrchr(name, '/');
+    int length = snprintf(folder, sizeof folder, "%.*s.", slash ? (int)(slash + 1 - name) : 0, name);
+    if (length < 0 || (size_t)length >= sizeof folder) {
+        return 0;
+    }
+    int file = open(folder, O_RDONLY | O_DIRECTORY);
+    if (file < 0) {
+        return 0;
+    }
+    int flushed = fsync(file) == 0;
+    return close(file) == 0 && flushed;
+}
+
+// A new file, flushed; then the name; then the folder, flushed. A power cut leaves the old file or the new one, and
+// after a 1 the new one. After a 0 it may be either: store again before anything else is done.
+static int store(const char *name, const uint8_t *line, size_t line_len, const uint8_t *state) {
+    uint8_t file[FILE_BYTES];
+    char fresh[PATH_BYTES];
+    int length = snprintf(fresh, sizeof fresh, "%s.new", name);
+    if (length < 0 || (size_t)length >= sizeof fresh) {
+        return 0;
+    }
+    memcpy(file, MARK, LINE_AT);
+    put(file + LINE_AT, digest(line, line_len));
+    memcpy(file + STATE_AT, state, SORTER_GATE_STATE_BYTES);
+    put(file + SUM_AT, digest(file, SUM_AT));
+    return write_new(fresh, file, sizeof file) && rename(fresh, name) == 0 && flush_folder(name);
+}
+
+static enum stored judge(const uint8_t *file, size_t count, const uint8_t *line, size_t line_len) {
+    if (count != FILE_BYTES) {
+        return OTHER_LENGTH;
+    }
+    if (memcmp(file, MARK, LINE_AT) != 0) {
+        return OTHER_FORM;
+    }
+    if (!holds(file + SUM_AT, digest(file, SUM_AT))) {
+        return DAMAGED;
+    }
+    return holds(file + LINE_AT, digest(line, line_len)) ? WHOLE : OTHER_LINE;
+}
+
+// Puts the stored area into `state` if the file is whole and of this line; otherwise `state` is as it was.
+static enum stored restore(const char *name, const uint8_t *line, size_t line_len, uint8_t *state) {
+    uint8_t file[FILE_BYTES + 1]; // one byte more, so that a longer file shows
     FILE *f = fopen(name, "rb");
     if (!f) {
-        return 0;
+        return errno == ENOENT ? ABSENT : UNREADABLE;
     }
-    int whole = fread(state, 1, SORTER_GATE_STATE_BYTES, f) == SORTER_GATE_STATE_BYTES;
+    size_t count = fread(file, 1, sizeof file, f);
+    int failed = ferror(f);
     fclose(f);
-    return whole;
+    enum stored found = failed ? UNREADABLE : judge(file, count, line, line_len);
+    if (found == WHOLE) {
+        memcpy(state, file + STATE_AT, SORTER_GATE_STATE_BYTES);
+    }
+    return found;
 }
 
-// An empty record changes nothing: 10 says that the line file and the areas are in order, less says what is not.
-static uint32_t look(uint8_t *state, uint8_t *answer) {
+// A line with one driver and nothing else.
+static const uint8_t LINE[] = {1, 1, 0, 0, 0};
+static uint8_t state[SORTER_GATE_STATE_BYTES], answer[SORTER_GATE_ANSWER_BYTES];
+
+static uint32_t call(const uint8_t *record, size_t length, const char *what) {
+    uint32_t n = gate_operate(LINE, sizeof LINE, state, sizeof state, record, length, answer, sizeof answer);
+    printf("%2u  %s\n", n, what);
+    return n;
+}
+
+// The area of the last run, or a fresh one. An empty record changes nothing: 10 says that line file and areas are in
+// order, less says what is not.
+static int begin(const char *name) {
     static const uint8_t nothing[1] = {0};
-    return gate_operate(LINE, sizeof LINE, state, SORTER_GATE_STATE_BYTES, nothing, 0, answer,
-                        SORTER_GATE_ANSWER_BYTES);
+    enum stored found = restore(name, LINE, sizeof LINE, state);
+    printf("    %s: %s\n", name, SAYS[found]);
+    if (found == ABSENT) {
+        printf(" %u  a fresh state\n", gate_fresh(LINE, sizeof LINE, state, sizeof state));
+    } else if (found != WHOLE) {
+        return 0; // what is on the machine is known to the operator alone
+    }
+    return call(nothing, 0, "look at the area") == SORTER_GATE_RECORD;
 }
 
-static uint32_t create(uint8_t *state, uint8_t *answer) {
-    return gate_operate(LINE, sizeof LINE, state, SORTER_GATE_STATE_BYTES, CREATE_1, sizeof CREATE_1, answer,
-                        SORTER_GATE_ANSWER_BYTES);
-}
-
-static int expect(const char *what, uint32_t number, uint32_t expected) {
-    printf("%2u  %s\n", number, what);
-    return number != expected;
+// The first partition that was never used before.
+static int create_next(void) {
+    for (uint8_t partition = 1; partition < 64; partition++) {
+        const uint8_t record[] = {SORTER_GATE_CODE_CREATE_PARTITION, partition};
+        char what[32];
+        snprintf(what, sizeof what, "create partition %u", partition);
+        if (call(record, sizeof record, what) == SORTER_GATE_ACCEPTED) {
+            return 1;
+        }
+    }
+    return 0;
 }
 
 int main(int argc, char **argv) {
-    static uint8_t state[SORTER_GATE_STATE_BYTES], answer[SORTER_GATE_ANSWER_BYTES];
     if (argc != 2) {
         fprintf(stderr, "restore FILE\n");
         return 2;
     }
-    int wrong = expect("a fresh state", gate_fresh(LINE, sizeof LINE, state, sizeof state), 0);
-    wrong += expect("create partition 1", create(state, answer), 0);
-    wrong += !store(argv[1], state);
-    memset(state, 0xFF, sizeof state);
-    wrong += expect("look at an area that is no state", look(state, answer), SORTER_GATE_STATE_FORM);
-    wrong += !restore(argv[1], state);
-    wrong += expect("look at the restored area", look(state, answer), SORTER_GATE_RECORD);
-    wrong += expect("create partition 1 again: it is remembered", create(state, answer), SORTER_GATE_PARTITION);
-    return wrong != 0;
+    if (!begin(argv[1]) || !create_next()) {
+        return 1;
+    }
+    int stored = store(argv[1], LINE, sizeof LINE, state);
+    printf("    %s: %s\n", argv[1], stored ? "stored" : "not stored");
+    return !stored;
 }
