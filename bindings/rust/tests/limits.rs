@@ -89,3 +89,51 @@ fn line_and_record_may_overlap() {
     assert_eq!(apart.map_err(|refusal| refusal.number()), Err(14));
     assert_eq!(operate(&line, &mut state, record, &mut answer), apart);
 }
+
+/// A part of `room` that begins a number of bytes behind an address that 16 divides.
+fn shifted(room: &mut [u8], by: usize, length: usize) -> &mut [u8] {
+    let start = room.as_ptr().align_offset(16) + by;
+    &mut room[start..start + length]
+}
+
+#[test]
+fn areas_may_stand_anywhere() {
+    let full = full_line();
+    let records: [&[u8]; 3] = [&[code::CREATE_PARTITION, 1], &[code::ACTIVATE_CARD, 1, 1], &[code::DEACTIVATE_CARD, 1]];
+    let mut expected = None;
+    for by in 0..16 {
+        let mut rooms = [(); 4].map(|()| vec![0; STATE_BYTES + 64]);
+        let [line_room, state_room, record_room, answer_room] = &mut rooms;
+        let line = shifted(line_room, by, full.len());
+        line.copy_from_slice(&full);
+        let state = shifted(state_room, by, STATE_BYTES);
+        fresh(line, state).expect("the full line is accepted");
+        for wanted in records {
+            let record = shifted(record_room, by, wanted.len());
+            record.copy_from_slice(wanted);
+            assert_eq!(operate(line, state, record, shifted(answer_room, by, ANSWER_BYTES)), Ok(()), "{by} {wanted:?}");
+        }
+        assert_eq!(state, expected.get_or_insert(state.to_vec()), "{by}");
+    }
+}
+
+#[test]
+fn calls_on_different_areas_run_at_once() {
+    let line = full_line();
+    std::thread::scope(|threads| {
+        for card in 1..=4 {
+            let line = &line;
+            threads.spawn(move || {
+                let (mut state, mut answer) = ([0; STATE_BYTES], [0; ANSWER_BYTES]);
+                for _ in 0..200 {
+                    fresh(line, &mut state).expect("the full line is accepted");
+                    for record in [&[code::CREATE_PARTITION, card][..], &[code::ACTIVATE_CARD, card, card]] {
+                        assert_eq!(operate(line, &mut state, record, &mut answer), Ok(()), "{record:?}");
+                    }
+                    let again = operate(line, &mut state, &[code::ACTIVATE_CARD, card, card], &mut answer);
+                    assert_eq!(again.map_err(|refusal| refusal.number()), Err(16));
+                }
+            });
+        }
+    });
+}
