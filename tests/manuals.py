@@ -191,6 +191,31 @@ def check_snippets(copy):
         raise Fault(f"docs/CONTROLLER.md: its Rust program does not run:\n{text}")
 
 
+def fnv(data):
+    """FNV-1a of 64 bits, lowest byte first."""
+    total = 0xCBF29CE484222325
+    for byte in data:
+        total = (total ^ byte) * 0x100000001B3 % 2 ** 64
+    return total.to_bytes(8, "little")
+
+
+def check_stored_file(copy):
+    """A stored area is put together as docs/CONTROLLER.md says; what the example's line file is, its source tells."""
+    text = " ".join(text_of("docs/CONTROLLER.md").split())
+    told = re.search(r"The example's file is eight bytes `(\w{8})`, the digest of the line file, the area, and the "
+                     r"digest of all that comes before, a digest being FNV-1a of 64 bits, lowest byte first", text)
+    area = re.search(r"The state area is ([\d,]+) plain bytes", text)
+    line = re.search(r"LINE\[\] = {([\d, ]+)}", text_of("examples/controller/restore.c"))
+    if not told or not area or not line:
+        raise Fault("docs/CONTROLLER.md: does not say what a stored area's file is")
+    printed, status = run(["./restore", "kept.bin"], copy)
+    stored = (copy / "kept.bin").read_bytes() if status == 0 else b""
+    head = told[1].encode() + fnv(bytes(int(number) for number in line[1].split(", ")))
+    length = len(head) + int(area[1].replace(",", "")) + 8
+    if not stored.startswith(head) or stored[-8:] != fnv(stored[:-8]) or len(stored) != length:
+        raise Fault(f"docs/CONTROLLER.md: a stored area's file is not what it says:\n{printed}{stored.hex()}")
+
+
 def check_way_out(copy):
     """The record that docs/CONTROLLER.md gives for 20, put before the last of the example, has it accepted."""
     found = re.search(r"In `(examples/questions/20)` the record `([\d ]+)` before the last does it",
@@ -247,6 +272,7 @@ def main():
         check_readme(outputs["README.md"]["./judge"], copy)
         check_library()
         check_snippets(copy)
+        check_stored_file(copy)
         check_way_out(copy)
         check_performance(outputs["docs/CONTROLLER.md"][STACK])
     print(f"manuals: {sum(map(len, outputs.values()))} commands of {len(MANUALS)} manuals do as they say")
