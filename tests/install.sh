@@ -21,8 +21,12 @@ controllers() {
         done
         rm -f "$out/state.bin"
         # Two starts of the controller that stores its area.
-        ("$out/main" && "$out/restore" "$out/state.bin" && "$out/restore" "$out/state.bin") > "$out/rows"
-        grep -q 'state.bin: whole, and of this line' "$out/rows" || { cat "$out/rows" >&2; exit 1; }
+        if ! ("$out/main" && "$out/restore" "$out/state.bin" && "$out/restore" "$out/state.bin") > "$out/rows" ||
+            ! tail -n 5 "$out/rows" | grep -q '^14  create partition 1$'; then
+            echo "install: a step of the controllers does not go as it should:" >&2
+            cat "$out/rows" >&2
+            exit 1
+        fi
         rows=$((rows + $(wc -l < "$out/rows")))
     done
     echo "install: the controllers, in C and in C++, print $rows rows as they should"
