@@ -9,6 +9,7 @@ from planner.config import Object
 from planner.judged import judge_moves
 from planner.picture import RED, draw_plan
 from planner.scene import MOST_UNFOLDED
+from planner.svg import text_width
 from planner.visit import Move
 
 SVG = "{http://www.w3.org/2000/svg}"
@@ -26,17 +27,28 @@ def refusals(seeds):
 
 class Pictures(unittest.TestCase):
     def test_a_mark_for_each_link_and_all_on_the_sheet(self):
-        drawn = 0
+        drawn, ends = 0, set()
         for plan, step in refusals(range(40)):
             sheet = ElementTree.fromstring(draw_plan(plan, step))
             links = plan.explained(step)[0].chain
             arrows = [path for path in sheet.iter(SVG + "path") if path.get("stroke") == RED]
-            legend = 2
+            legend = 3 if links[-1].mode == w.BOTH else 2
             self.assertEqual(len(arrows) - legend, sum(link.kind != "wired" for link in links))
+            self.drawn_as_the_legend_says(arrows[:-legend], arrows[-legend:], links)
+            ends.add(links[-1].mode)
             self.assertEqual(len(list(sheet.iter(SVG + "circle"))), 2 * len(links))
             self.on_the_sheet(sheet)
             drawn += 1
         self.assertGreater(drawn, 100)
+        self.assertEqual(ends, set(w.MODES))
+
+    def drawn_as_the_legend_says(self, arrows, legend, links):
+        """Solid reads, dashed writes, and one that does both is like neither; so also where the chain ends."""
+        looks = {mode: arrow.get("stroke-dasharray") for mode, arrow in zip((w.READ, w.WRITE, w.BOTH), legend)}
+        self.assertIsNone(looks[w.READ])
+        self.assertEqual(len(set(looks.values())), len(legend))
+        modes = [{"reads": w.READ, "puts": w.WRITE}.get(link.kind, link.mode) for link in links if link.kind != "wired"]
+        self.assertEqual([arrow.get("stroke-dasharray") for arrow in arrows], [looks[mode] for mode in modes])
 
     def on_the_sheet(self, sheet):
         width, height = float(sheet.get("width")), float(sheet.get("height"))
@@ -44,6 +56,10 @@ class Pictures(unittest.TestCase):
             self.assertGreaterEqual(float(shape.get("x")), 0)
             self.assertLessEqual(float(shape.get("x")) + float(shape.get("width")), width)
             self.assertLessEqual(float(shape.get("y")) + float(shape.get("height")), height)
+        for shape in sheet.iter(SVG + "text"):
+            if shape.get("text-anchor") is None:
+                size = float(shape.get("font-size"))
+                self.assertLessEqual(float(shape.get("x")) + text_width(shape.text, size), width + 1, shape.text)
 
     def test_a_large_line_is_folded_at_a_row_only(self):
         config = random_line(1)

@@ -10,6 +10,9 @@ RED, GREEN, INK, GREY = "#c8102e", "#1b7f3b", "#1f2933", "#64707d"
 KIND_MARKS = {w.TRANSFER: ("T", "#d97706"), w.FUNCTION: ("F", "#7c3aed"), w.DATA: ("D", "#0f766e"),
               w.HARDCODED: ("H", "#475569")}
 GROUP_COLOURS = {w.DRIVER: ("#d8ecd9", "#2f6b36"), w.DEVICE: ("#d6e4f7", "#1d4e89"), w.EXTERNAL: ("#ece7dc", "#6b5d3c")}
+# How an arrow is drawn by what its entry does, and what the legend says of it.
+LOOKS = {w.READ: {}, w.WRITE: dict(stroke_dasharray="6 4"), w.BOTH: dict(stroke_dasharray="14 4 3 4")}
+LEGEND = {w.READ: "reads", w.WRITE: "could write", w.BOTH: "could do both"}
 LEAST_WIDTH = 860
 
 
@@ -137,14 +140,18 @@ def badge(x, y, number):
             label(x, y + 4, str(number), 11, text_anchor="middle", font_weight="bold", fill="#ffffff")]
 
 
+def mode_of(link):
+    """Whether a link reads or writes: its entry's mode where it ends the chain, else what it needs of the entry."""
+    return link.mode or (w.WRITE if link.kind == "puts" else w.READ)
+
+
 def draw_chain(scene, chain, routes):
     """The arrows with their numbers; a link at a hard-wired descriptor has its number at that row."""
     body = []
     for route in routes:
         last = route.link.kind in ("outside", "names")
-        look = dict(stroke=RED, stroke_width=3 if last else 1.8, fill="none", marker_end="url(#head)")
-        if route.link.kind == "puts":
-            look["stroke_dasharray"] = "6 4"
+        look = dict(stroke=RED, stroke_width=3 if last else 1.8, fill="none", marker_end="url(#head)",
+                    **LOOKS[mode_of(route.link)])
         body += [tag("path", d=rounded(route.halo()), stroke="#ffffff", stroke_width=6, fill="none"),
                  tag("path", d=rounded(route.points), **look)]
     for route in routes:
@@ -178,8 +185,8 @@ def footer(plan, step, chain, y, width):
                  label(x + 19, y, w.KINDS[kind], 11, fill=GREY)]
         x += 34 + text_width(w.KINDS[kind], 11)
     if chain:
-        for text, dashed in (("reads", {}), ("could write", dict(stroke_dasharray="6 4"))):
+        for mode in sorted({w.READ, w.WRITE} | {mode_of(link) for link in chain}):
             body += [tag("path", d=f"M{x:.1f},{y - 4}h30", stroke=RED, stroke_width=1.8, fill="none",
-                         marker_end="url(#head)", **dashed), label(x + 36, y, text, 11, fill=GREY)]
-            x += 56 + text_width(text, 11)
+                         marker_end="url(#head)", **LOOKS[mode]), label(x + 36, y, LEGEND[mode], 11, fill=GREY)]
+            x += 56 + text_width(LEGEND[mode], 11)
     return body, y + 8
