@@ -57,7 +57,8 @@ class Example(InFolder):
         self.edit("visit.csv", "create,,Test bench", ",,,,\ncreate,,Test bench")
         plan("csv", "examples/visit")
         rows = (self.visit / "answers.csv").read_text(encoding="utf-8").splitlines()
-        self.assertEqual(rows[1:4], ["2,1,0,accepted,,", "3,,,,,", "4,2,0,accepted,,"])
+        self.assertEqual(rows[1:4], ["2,1,create,,Live loop,,0,accepted,,", "3,,,,,,,,,",
+                                     "4,2,create,,Test bench,,0,accepted,,"])
 
     def test_picture(self):
         for arguments, name in (((), "picture.svg"), ((17,), "picture-row-17.svg")):

@@ -64,7 +64,8 @@ def heading(plan, step, findings, chain, width):
                                            f"{sum(one.accepted for one in plan.steps)} of them accepted"]
         colour = INK
     else:
-        title = f"Row {step.move.row}: " + ("accepted" if step.accepted else f"refused by question {step.answer}")
+        verdict = "accepted" if step.accepted else f"refused by question {step.answer}"
+        title = f"Row {step.move.row} (move {step.place}): {verdict}"
         texts = [move_words(plan.config, step.move)]
         colour = GREEN if step.accepted else RED
         if not step.accepted:

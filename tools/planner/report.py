@@ -1,4 +1,5 @@
 """What the commands print: the judged plan, the explanation of a row, the answers as a table."""
+import re
 import textwrap
 
 from . import wording as w
@@ -7,11 +8,16 @@ from .reach import chain_sentences
 from .visit import move_words
 
 WIDTH = 110
-ANSWER_COLUMNS = ("row", "place", "answer", "verdict", "question", "failed on")
+MOVE_COLUMNS = ("operation", "who", "where", "what")
+ANSWER_COLUMNS = ("row", "move") + MOVE_COLUMNS + ("answer", "verdict", "question", "failed on")
+KEPT = "\0"
 
 
 def wrap(text, first, rest):
-    return textwrap.wrap(text, WIDTH, initial_indent=first, subsequent_indent=rest, break_on_hyphens=False)
+    """The text in lines. Blanks side by side are a text's own: no line ends there, and none of them is lost."""
+    kept = re.sub(" {2,}", lambda run: KEPT * len(run[0]), text)
+    lines = textwrap.wrap(kept, WIDTH, initial_indent=first, subsequent_indent=rest, break_on_hyphens=False)
+    return [line.replace(KEPT, " ") for line in lines]
 
 
 def sentence(text):
@@ -52,31 +58,34 @@ def check_lines(plan, command):
     if plan.verdict.too_long or plan.verdict.refused_line:
         return line_summary(plan) + [""] + refused_whole(plan)
     lines = line_summary(plan) + [""]
+    digits = [len(str(number)) for number in (plan.table.last, len(plan.steps))]
     for step in plan.steps:
         verdict = "accepted" if step.accepted else f"refused {step.answer}"
-        lines += wrap(move_words(plan.config, step.move), f"row {step.move.row:>3}  {verdict:<11} ", " " * 21)
+        first = f"row {step.move.row:>{digits[0]}} (move {step.place:>{digits[1]}})  {verdict:<11} "
+        lines += wrap(move_words(plan.config, step.move), first, " " * len(first))
         if not step.accepted:
-            lines += refusal_lines(plan, step, command)
+            lines += refusal_lines(plan, step, command, len(first))
     refused = [step for step in plan.steps if not step.accepted]
     total = f"{plural(len(plan.steps), 'move')}: {len(plan.steps) - len(refused)} accepted, {len(refused)} refused"
     rows = ", ".join(str(step.move.row) for step in refused)
     return lines + ["", f"{total} (row{'' if len(refused) == 1 else 's'} {rows})." if refused else f"{total}."]
 
 
-def refusal_lines(plan, step, command):
+def refusal_lines(plan, step, command, margin):
     """The question and what it failed on; `command` explains a row when its number is put behind."""
-    lines = wrap(w.question(step.answer, step.move.code), " " * 21, " " * 21)
+    left = " " * margin
+    lines = wrap(w.question(step.answer, step.move.code), left, left)
     findings = plan.findings(step)
     for finding in findings:
-        lines += wrap(sentence(finding.text), " " * 21 + "No: ", " " * 25)
+        lines += wrap(sentence(finding.text), left + "No: ", left + "    ")
         if finding.chain:
-            lines.append(" " * 25 + f"See: {command} {step.move.row}")
-    return lines if findings else lines + [" " * 21 + "No; the tables do not show on what."]
+            lines.append(left + f"    See: {command} {step.move.row}")
+    return lines if findings else lines + [left + "No; the tables do not show on what."]
 
 
 def explain_lines(plan, step):
     """The explanation of one row: for 19 and 20 the chain link by link."""
-    head = wrap(move_words(plan.config, step.move), f"Row {step.move.row}: ", "    ")
+    head = wrap(move_words(plan.config, step.move), f"Row {step.move.row} (move {step.place}): ", "    ")
     if step.accepted:
         return head + ["Accepted: every question is answered yes."]
     lines = head + wrap(w.question(step.answer, step.move.code), f"Refused by question {step.answer}: ", "    ")
@@ -110,12 +119,15 @@ def rests_on(config, step, links):
 
 def answer_rows(plan):
     """A row for each row of visit.csv below its heading, blank ones too, so that it can be pasted beside the plan."""
-    rows = {step.move.row: answer_row(plan, step) for step in plan.steps}
+    written = {row.number: row for row in plan.table.rows}
+    rows = {step.move.row: answer_row(plan, step, written[step.move.row]) for step in plan.steps}
     return [rows.get(number, (number,) + ("",) * (len(ANSWER_COLUMNS) - 1)) for number in range(2, plan.table.last + 1)]
 
 
-def answer_row(plan, step):
+def answer_row(plan, step, row):
+    """A move as it stands in visit.csv, and its answer."""
+    move = (row.number, step.place) + tuple(row.cells.get(column, "") for column in MOVE_COLUMNS) + (step.answer,)
     if step.accepted:
-        return step.move.row, step.place, step.answer, "accepted", "", ""
+        return move + ("accepted", "", "")
     failed = "; ".join(finding.text for finding in plan.findings(step))
-    return step.move.row, step.place, step.answer, "refused", w.question(step.answer, step.move.code), failed
+    return move + ("refused", w.question(step.answer, step.move.code), failed)
