@@ -86,7 +86,7 @@ class Files(InFolder):
                 with self.subTest(f"{name} after {good} good ones"):
                     files.store(self.visit, *self.old.values())
                     steps = [mock.DEFAULT] * good + [OSError("the disk is full")]
-                    with mock.patch(f"planner.files.{name}", create=True, side_effect=steps, wraps=real):
+                    with mock.patch(f"planner.disk.{name}", create=True, side_effect=steps, wraps=real):
                         self.assertEqual(plan("check", "examples/visit")[0], 2)
                     self.assertLess(len(self.stored()), 2)
                     self.assertTrue(set(self.stored().values()).isdisjoint(self.old.values()))

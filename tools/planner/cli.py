@@ -4,14 +4,15 @@ import shlex
 import sys
 from pathlib import Path
 
-from . import files, office, unpack
+from . import disk, files, office, unpack
 from . import wording as w
 from .chain import BrokenChain
 from .config import Config
 from .judged import judge_folder
 from .picture import draw_plan
 from .report import ANSWER_COLUMNS, answer_rows, check_lines, explain_lines, refused_whole
-from .table import TableError, TableErrors, write_table
+from .sheet import encode
+from .table import TableError, TableErrors
 from .tables import write_tables
 
 DONE, REFUSED, USAGE, TABLES, PROGRAM, UNEXPLAINED = range(6)
@@ -40,7 +41,7 @@ def main(arguments, tool="tools/plan"):
         return fail(PROGRAM, fault)
     except BrokenChain as fault:
         return fail(UNEXPLAINED, fault)
-    except (UsageError, OSError) as fault:
+    except (UsageError, disk.FileError, OSError) as fault:
         return fail(USAGE, fault)
 
 
@@ -131,9 +132,9 @@ def run_csv(options):
     plan = load(options)
     if not judged(plan):
         return REFUSED
-    path = options.dir / "answers.csv"
-    write_table(path, ANSWER_COLUMNS, answer_rows(plan), plan.table.separator)
-    print(f"Written: {path}")
+    name = "answers.csv"
+    disk.put(options.dir, {name: encode([ANSWER_COLUMNS] + answer_rows(plan), plan.table.form)})
+    print(f"Written: {options.dir / name}")
     return DONE
 
 

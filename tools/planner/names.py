@@ -2,13 +2,21 @@
 import difflib
 
 from . import wording as w
+from .table import squeezed
 
 CONTENT_WORDS = ("text", "bytes")
 RESERVED = {"object": (), "value": (w.CLEARED,), "owner": (w.OWNERS[w.EXTERNAL],), "partition": ()}
 
 
 def key(name):
-    return " ".join(name.split()).casefold()
+    return squeezed(name).casefold()
+
+
+def likely(name, known):
+    """A question after the known word that is nearest to an unknown one; nothing if none is near."""
+    spelled = {key(word): word for word in known}
+    near = difflib.get_close_matches(key(name), spelled, 1)
+    return f"; did you mean '{spelled[near[0]]}'?" if near else ""
 
 
 def number_of(text):
@@ -32,16 +40,22 @@ class Names:
     """A set of names of one sort, each standing for one thing."""
 
     def __init__(self, sort):
-        self.sort, self.things, self.spelled = sort, {}, {}
+        self.sort, self.things, self.spelled, self.rows = sort, {}, {}, {}
 
     def add(self, row, column, thing):
         """Takes the name in a cell for a thing; a fault if it is taken."""
         name = row.needed(column)
         check_name(row, column, name, self.sort)
         if key(name) in self.things:
-            raise row.fault(column, f"'{name}' stands there twice")
-        self.things[key(name)], self.spelled[key(name)] = thing, name
+            raise row.fault(column, self.taken(name))
+        self.things[key(name)], self.spelled[key(name)], self.rows[key(name)] = thing, name, row
         return name
+
+    def taken(self, name):
+        """Where else a name stands, and how it is spelled there."""
+        other, spelled = self.rows[key(name)], self.spelled[key(name)]
+        unlike = f" ('{spelled}')" if spelled != name else ""
+        return f"'{name}' stands twice: here and in {other.file}, row {other.number}{unlike}"
 
     def get(self, name):
         return self.things.get(key(name))
@@ -50,6 +64,5 @@ class Names:
         """What a name stands for; a fault with a likely name if there is none."""
         if key(name) in self.things:
             return self.things[key(name)]
-        close = difflib.get_close_matches(key(name), self.things, 1)
-        hint = f"; did you mean '{self.spelled[close[0]]}'?" if close else ""
+        hint = likely(name, self.spelled.values())
         raise row.fault(column, f"there is no {what or self.sort} called '{name}'{hint}")

@@ -1,7 +1,9 @@
 """The few shapes a picture needs, written as SVG text; widths of letters are estimated, since no font is at hand."""
+import re
 from xml.sax.saxutils import escape, quoteattr
 
 FONT = "Helvetica, Arial, 'Liberation Sans', 'DejaVu Sans', sans-serif"
+NO_BREAK = "\u00a0"
 NARROW, WIDE = set("iljtfrI.,;:'|!()[]/- "), set("mwMW@%&")
 
 
@@ -27,8 +29,14 @@ def fit(text, width, size):
     return text.rstrip() + "…"
 
 
+def kept(text):
+    """The text with blanks side by side made such that a viewer does not run them together."""
+    return re.sub(" {2,}", lambda run: NO_BREAK * len(run[0]), text)
+
+
 def label(x, y, text, size=12, width=None, **values):
     """A text; one that is shortened to a width can be read whole by pointing at it."""
+    text = kept(text)
     shown = fit(text, width, size) if width else text
     title = f"<title>{escape(text)}</title>" if shown != text else ""
     place = attributes(dict(x=round(x, 1), y=round(y, 1), font_size=size, **values))
@@ -38,7 +46,7 @@ def label(x, y, text, size=12, width=None, **values):
 def lines_of(text, width, size):
     """A text broken into lines of at most a width."""
     lines, line = [], ""
-    for word in text.split():
+    for word in kept(text).split(" "):
         longer = f"{line} {word}".strip()
         if line and text_width(longer, size) > width:
             lines.append(line)

@@ -1,10 +1,11 @@
 """Tables as a spreadsheet saves them: rows with the numbers that the spreadsheet shows, and faults with their place."""
-import csv
-import io
-from dataclasses import dataclass
+import unicodedata
+from dataclasses import dataclass, field
 from pathlib import Path
 
-SEPARATORS = ",;\t"
+from . import disk, sheet
+
+LINE_BLANKS = "\t\r\n"
 
 
 class TableError(Exception):
@@ -23,6 +24,22 @@ class TableErrors(Exception):
         self.faults = faults
 
 
+def composed(text):
+    """The text with each letter in one form (NFC): an umlaut is one letter, however it was typed."""
+    return unicodedata.normalize("NFC", text)
+
+
+def squeezed(text):
+    """The text with runs of blanks made one."""
+    return " ".join(text.split())
+
+
+def hidden(text):
+    """The first character that nobody sees, blanks, tabs and line ends left out; None if there is none."""
+    return next((c for c in text if not c.isprintable() and c not in LINE_BLANKS
+                 and unicodedata.category(c) != "Zs"), None)
+
+
 @dataclass(frozen=True)
 class Row:
     """A row of a table: the file's name, the spreadsheet's row number and the cells by column."""
@@ -32,7 +49,11 @@ class Row:
 
     def text(self, column):
         """The cell with runs of blanks made one; an absent cell is empty."""
-        return " ".join(self.cells.get(column, "").split())
+        return squeezed(self.whole(column))
+
+    def whole(self, column):
+        """The cell with its blanks as they are."""
+        return composed(self.cells.get(column, ""))
 
     def needed(self, column):
         """The cell, which must not be empty."""
@@ -47,54 +68,70 @@ class Row:
 
 @dataclass(frozen=True)
 class Table:
-    """A table's rows without blank ones, the number of its last row, and the separator that the spreadsheet used."""
+    """A table's rows without blank ones, the number of its last row, and the form in which it was saved."""
     rows: list
     last: int
-    separator: str
+    form: sheet.Form = field(default_factory=sheet.Form)
 
 
 def read_table(path, columns, optional=False):
     """The table of a file. Columns may stand in any order; further ones are the planner's own."""
     path = Path(path)
-    if not path.exists():
+    with disk.told("read", path):
+        there = path.exists()
+    if not there:
         if optional:
-            return Table([], 1, ",")
+            return Table([], 1)
         raise TableError(path.name, None, None, "is not there")
     try:
-        text = path.read_bytes().decode("utf-8-sig")
-    except UnicodeDecodeError as fault:
-        row = path.read_bytes()[:fault.start].count(b"\n") + 1
-        message = "has a letter that is not UTF-8; save the sheet as 'CSV UTF-8'"
-        raise TableError(path.name, row, None, message) from None
-    return parse_table(path.name, text, columns)
+        text, form = sheet.decode(disk.read(path))
+        lines, form = sheet.split(text, form, lambda heading: len(missing(heading, columns)))
+    except sheet.SheetError as fault:
+        raise TableError(path.name, fault.row, None, str(fault)) from None
+    return make_table(path.name, lines, form, columns)
 
 
-def parse_table(name, text, columns):
-    """The table in a text; the heading decides the separator."""
-    first = text.split("\n", 1)[0]
-    separator = max(SEPARATORS, key=first.count)
-    try:
-        lines = list(csv.reader(io.StringIO(text, newline=""), delimiter=separator, strict=True))
-    except csv.Error as fault:
-        raise TableError(name, None, None, f"cannot be read as a table: {fault}") from None
-    heading = [cell.strip().lower() for cell in lines[0]] if lines else []
-    missing = [column for column in columns if column not in heading]
-    if missing:
-        raise TableError(name, 1, missing[0], f"is missing; the heading must have: {', '.join(columns)}")
-    twice = [column for column in columns if heading.count(column) > 1]
-    if twice:
-        raise TableError(name, 1, twice[0], "stands there twice")
-    rows = [Row(name, number, dict(zip(heading, cells))) for number, cells in enumerate(lines[1:], 2)
-            if any(dict(zip(heading, cells)).get(column, "").strip() for column in columns)]
-    return Table(rows, max(len(lines), 1), separator)
+def headings(cells):
+    return [squeezed(composed(cell)).lower() for cell in cells]
 
 
-def write_table(path, columns, rows, separator=","):
-    """Writes a table that read_table reads back."""
-    with open(path, "w", encoding="utf-8", newline="") as out:
-        writer = csv.writer(out, delimiter=separator, lineterminator="\n")
-        writer.writerow(columns)
-        writer.writerows(rows)
+def missing(heading, columns):
+    there = headings(heading)
+    return [column for column in columns if column not in there]
+
+
+def make_table(name, lines, form, columns):
+    """The table of rows of cells, the first of which is the heading."""
+    heading = headings(lines[0]) if lines else []
+    for column in missing(heading, columns):
+        tried = ", ".join(sheet.SEPARATORS.values())
+        raise TableError(name, 1, column, f"is missing; the heading must have: {', '.join(columns)} "
+                                          f"(tried between the columns: {tried})")
+    for column in columns:
+        if heading.count(column) > 1:
+            raise TableError(name, 1, column, "stands in the heading twice")
+    check_widths(name, heading, lines)
+    rows = [Row(name, number, dict(zip(heading, cells))) for number, cells in enumerate(lines[1:], 2)]
+    rows = [row for row in rows if any(row.text(column) for column in columns)]
+    gather(rows, lambda row: check_seen(row, columns))
+    return Table(rows, max(len(lines), 1), form)
+
+
+def check_widths(name, heading, lines):
+    """A heading of one column does not show which separator there is: a second cell may be a part of the name."""
+    for number, cells in enumerate(lines[1:], 2):
+        if len(heading) == 1 and any(cell.strip() for cell in cells[1:]):
+            raise TableError(name, number, None, "has more cells than the heading; give the heading a second column")
+
+
+def check_seen(row, columns):
+    """A fault for a character that nobody sees: two names that look alike would be two, and a terminal obeys some."""
+    for column in columns:
+        found = hidden(row.whole(column))
+        if found:
+            name = unicodedata.name(found, "a control character").lower()
+            raise row.fault(column, f"has a character in it that cannot be seen: {name} (U+{ord(found):04X}); "
+                                    "type the cell anew")
 
 
 def gather(rows, take):

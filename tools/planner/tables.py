@@ -2,10 +2,12 @@
 from dataclasses import dataclass, field
 from pathlib import Path
 
+from . import disk
 from . import wording as w
 from .config import Config, Device, Entry, Object, Value
-from .names import Names, key
-from .table import TableError, TableErrors, gather, read_table, write_table
+from .names import Names, key, likely
+from .sheet import Form, encode
+from .table import TableError, TableErrors, gather, read_table
 from .visit import move_cells
 
 COLUMNS = {
@@ -99,7 +101,8 @@ def take_objects(line, rows):
         name = line.objects.add(row, "object", number)
         kind, owner = row.needed("kind"), row.needed("owner")
         if key(kind) not in words:
-            raise row.fault("kind", f"'{kind}' is none of: {', '.join(SHORT_KINDS.values())}")
+            known = list(SHORT_KINDS.values())
+            raise row.fault("kind", f"'{kind}' is none of: {', '.join(known)}{likely(kind, known)}")
         outside = key(owner) == w.OWNERS[w.EXTERNAL]
         found = (w.EXTERNAL, 0) if outside else line.owners.find(row, "owner", owner, "driver or card")
         line.config.objects[number] = Object(name, words[key(kind)], *found)
@@ -130,7 +133,8 @@ def take_entry(line, row):
     modes = {word: mode for mode, word in w.MODES.items()} | {str(mode): mode for mode in w.MODES}
     mode = modes.get(key(row.needed("mode")))
     if mode is None:
-        raise row.fault("mode", f"'{row.text('mode')}' is none of: {', '.join(w.MODES.values())}")
+        given, known = row.text("mode"), list(w.MODES.values())
+        raise row.fault("mode", f"'{given}' is none of: {', '.join(known)}{likely(given, known)}")
     put = row.text("put")
     if line.config.objects[number].kind != w.TRANSFER or mode == w.READ:
         if put:
@@ -181,10 +185,12 @@ def table_rows(config, moves):
 def write_tables(folder, config, moves=()):
     """Writes all tables into a folder, each with a column for notes; none may be there already."""
     folder = Path(folder)
-    there = [name for name in COLUMNS if (folder / name).exists()]
+    with disk.told("write"):
+        there = [name for name in COLUMNS if (folder / name).exists()]
     if there:
         raise TableError(folder / there[0], None, None, "is already there; nothing was changed")
-    folder.mkdir(parents=True, exist_ok=True)
-    for name, rows in table_rows(config, moves).items():
-        write_table(folder / name, COLUMNS[name] + (NOTE,), [tuple(row) + ("",) for row in rows])
+    with disk.told("write"):
+        folder.mkdir(parents=True, exist_ok=True)
+    disk.put(folder, {name: encode([COLUMNS[name] + (NOTE,)] + [tuple(row) + ("",) for row in rows], Form())
+                      for name, rows in table_rows(config, moves).items()})
     return list(COLUMNS)

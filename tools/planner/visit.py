@@ -2,8 +2,8 @@
 from dataclasses import dataclass
 
 from . import wording as w
-from .names import key, number_of
-from .table import gather
+from .names import CONTENT_WORDS, key, likely, number_of
+from .table import LINE_BLANKS, composed, gather, squeezed
 
 COLUMNS_OF = {"who": "who", "where": "where", "items": "what", "pairs": "what", "objects": "what"}
 
@@ -59,7 +59,8 @@ def read_move(line, row):
     verb = key(row.needed("operation"))
     verbs = list(dict.fromkeys(code.verb for code in w.CODES.values()))
     if verb not in verbs:
-        raise row.fault("operation", f"'{row.text('operation')}' is none of: {', '.join(verbs)}")
+        given = row.text("operation")
+        raise row.fault("operation", f"'{given}' is none of: {', '.join(verbs)}{likely(given, verbs)}")
     actor, who = read_actor(line, row)
     code = find_code(row, verb, actor)
     used = {COLUMNS_OF[part] for part in code.fields}
@@ -106,7 +107,9 @@ def read_partition(line, row):
 
 
 def parts_of(row):
-    parts = [part.strip() for part in row.needed("what").split(";")]
+    """What stands between the semicolons, with the blanks inside as they are: they may be a text's."""
+    row.needed("what")
+    parts = [part.strip() for part in row.whole("what").split(";")]
     parts = [part for part in parts if part]
     if not parts:
         raise row.fault("what", "is empty")
@@ -115,13 +118,13 @@ def parts_of(row):
 
 def read_object(line, row, text):
     number = number_of(text)
-    return number if number is not None else line.objects.find(row, "what", text)
+    return number if number is not None else line.objects.find(row, "what", squeezed(text))
 
 
 def read_pair(line, row, text):
     source, arrow, destination = (part.strip() for part in text.partition("->"))
     if arrow and not destination:
-        raise row.fault("what", f"'{text}' says no destination after '->'")
+        raise row.fault("what", f"'{squeezed(text)}' says no destination after '->'")
     return Pair(read_object(line, row, source), read_object(line, row, destination) if arrow else 0)
 
 
@@ -129,38 +132,46 @@ def read_item(line, row, text):
     """`object = value`, `object = text ..`, `object = bytes ..` or `object = cleared`."""
     name, equals, content = (part.strip() for part in text.partition("="))
     if not equals or not content:
-        raise row.fault("what", f"'{text}' does not say what to write; write it as 'object = value'")
+        raise row.fault("what", f"'{squeezed(text)}' does not say what to write; write it as 'object = value'")
     number = read_object(line, row, name)
     transfer = line.config.is_descriptor(number)
-    word, _, rest = content.partition(" ")
-    if key(word) in ("text", "bytes"):
-        return Item(number, w.RAW_FORM, raw=read_raw(row, key(word), rest))
+    word, *rest = content.split(None, 1)
+    if key(word) in CONTENT_WORDS:
+        return Item(number, w.RAW_FORM, raw=read_raw(row, key(word), *rest))
+    content = squeezed(content)
     if key(content) == w.CLEARED:
         return Item(number, w.VALUE_FORM if transfer else w.RAW_FORM)
     value = number_of(content)
     if value is None and line.values.get(content) is None and not transfer:
-        raise row.fault("what", f"'{content}' is no value; contents of {name} are written as 'text ..' or 'bytes ..'")
+        owner = squeezed(name)
+        raise row.fault("what", f"'{content}' is no value; contents of {owner} are written as 'text ..' or 'bytes ..'")
     return Item(number, w.VALUE_FORM, line.values.find(row, "what", content) if value is None else value)
 
 
-def read_raw(row, word, rest):
-    """Up to sixteen bytes, filled up with zeros."""
+def read_raw(row, word, rest=""):
+    """Up to sixteen bytes, filled up with zeros; a text is taken as it stands between its first and last letter."""
+    plain = squeezed(rest)
+    if word == "text" and not rest:
+        raise row.fault("what", f"'text' has no text behind it; write '{w.CLEARED}' for none")
+    if word == "text" and any(mark in rest for mark in LINE_BLANKS):
+        raise row.fault("what", f"'text {plain}' has a tab or a line end in it; give it as 'bytes ..'")
     try:
-        raw = rest.encode() if word == "text" else bytes.fromhex(rest)
+        raw = rest.encode() if word == "text" else bytes.fromhex(plain)
     except ValueError:
-        raise row.fault("what", f"'bytes {rest}' is not in pairs of 0 to 9 and a to f") from None
+        raise row.fault("what", f"'bytes {plain}' is not in pairs of 0 to 9 and a to f") from None
     if len(raw) > w.CONTENT_BYTES:
-        raise row.fault("what", f"'{word} {rest}' has {len(raw)} bytes; an object holds {w.CONTENT_BYTES}")
+        given = rest if word == "text" else plain
+        raise row.fault("what", f"'{word} {given}' has {len(raw)} bytes; an object holds {w.CONTENT_BYTES}")
     return raw.ljust(w.CONTENT_BYTES, b"\0")
 
 
 def raw_words(raw):
-    """Sixteen bytes in words: cleared, a text if they are one, or bytes."""
+    """Sixteen bytes in words: cleared, a text if one gives these bytes and can be seen, or bytes."""
     trimmed = raw.rstrip(b"\0")
-    text = trimmed.decode("ascii", "replace")
+    text = trimmed.decode("utf-8", "replace")
     if not trimmed:
         return w.CLEARED
-    plain = trimmed.isascii() and text.isprintable() and text == " ".join(text.split()) and ";" not in text
+    plain = text.isprintable() and text == composed(text).strip() and ";" not in text and text.encode() == trimmed
     return f"text {text}" if plain else f"bytes {trimmed.hex(' ')}"
 
 
