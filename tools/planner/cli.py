@@ -1,7 +1,6 @@
 """The commands of tools/plan and their exit statuses."""
 import argparse
 import shlex
-import sys
 from pathlib import Path
 
 from . import disk, files, office, unpack
@@ -14,15 +13,17 @@ from .report import ANSWER_COLUMNS, answer_rows, check_lines, explain_lines, ref
 from .sheet import encode
 from .table import TableError, TableErrors
 from .tables import write_tables
+from .terminal import complain, finish, prepare, say, visible
 
 DONE, REFUSED, USAGE, TABLES, PROGRAM, UNEXPLAINED = range(6)
 STATUSES = """exit statuses:
   0  done; for 'check': every move is accepted
   1  a move or the line is refused
-  2  the command is not typed as it should be
+  2  the command is not typed as it should be, or a file or the output cannot be read or written
   3  a table is at fault; file, row and column are named
   4  the office program is not to be had or failed, or its answers are not whole
-  5  an answer 19 or 20 could not be explained by a chain that holds"""
+  5  an answer 19 or 20 could not be explained by a chain that holds
+  130  stopped by Ctrl-C"""
 
 
 class UsageError(Exception):
@@ -31,29 +32,50 @@ class UsageError(Exception):
 
 def main(arguments, tool="tools/plan"):
     """Carries out one command; `tool` is what the planner typed to call it."""
-    options = parser().parse_args(arguments)
-    options.tool = tool
+    prepare()
     try:
+        status = carry_out(arguments, tool)
+        finish()
+        return status
+    except (disk.FileError, OSError) as fault:
+        return fail(USAGE, disk.plain(fault, "read") if isinstance(fault, OSError) else fault)
+
+
+def carry_out(arguments, tool):
+    try:
+        options = parser().parse_args(arguments)
+        options.tool = tool
         return options.run(options)
+    except SystemExit as stop:
+        return stop.code
     except (TableError, TableErrors) as fault:
         return fail(TABLES, fault)
     except office.OfficeError as fault:
         return fail(PROGRAM, fault)
     except BrokenChain as fault:
         return fail(UNEXPLAINED, fault)
-    except (UsageError, disk.FileError, OSError) as fault:
+    except UsageError as fault:
         return fail(USAGE, fault)
 
 
 def fail(status, fault):
-    for line in str(fault).splitlines():
-        print(f"plan: {line}", file=sys.stderr)
+    complain(fault)
     return status
 
 
+class Parser(argparse.ArgumentParser):
+    """The command line; what was typed is said again without control characters, and help is said as all else."""
+
+    def error(self, message):
+        super().error(visible(message))
+
+    def print_help(self, file=None):
+        say([self.format_help().rstrip("\n")])
+
+
 def parser():
-    top = argparse.ArgumentParser(prog="plan", description="Plans of service visits, judged by the proved program.",
-                                  epilog=STATUSES, formatter_class=argparse.RawDescriptionHelpFormatter)
+    top = Parser(prog="plan", description="Plans of service visits, judged by the proved program.",
+                 epilog=STATUSES, formatter_class=argparse.RawDescriptionHelpFormatter)
     top.add_argument("--office", metavar="PATH", help=f"the office program (else {office.VARIABLE}, else ./judge)")
     commands = top.add_subparsers(required=True, metavar="COMMAND")
     for name, run, arguments, text in (
@@ -73,15 +95,17 @@ def parser():
 
 
 def load(options):
-    if not options.dir.is_dir():
-        raise UsageError(f"{options.dir} is not a folder")
+    with disk.told("read", options.dir):
+        if not options.dir.is_dir():
+            raise UsageError(f"{options.dir} is not a folder")
     return judge_folder(office.find_office(options.office), options.dir)
 
 
 def judged(plan):
     """Whether the program judged the moves; if not, what it said is printed."""
     lines = refused_whole(plan) if plan.verdict.too_long or plan.verdict.refused_line else []
-    print("\n".join(lines), end="\n" if lines else "")
+    if lines:
+        say(lines)
     return not lines
 
 
@@ -96,7 +120,7 @@ def step_at(plan, row):
 
 def run_new(options):
     made = write_tables(options.dir, Config())
-    print(f"Made in {options.dir}: {', '.join(made)}")
+    say([f"Made in {options.dir}: {', '.join(made)}"])
     return DONE
 
 
@@ -105,7 +129,7 @@ def run_check(options):
     files.clear(options.dir)
     plan = load(options)
     files.store(options.dir, plan.line, plan.session)
-    print("\n".join(check_lines(plan, f"{options.tool} explain {shlex.quote(str(options.dir))}")))
+    say(check_lines(plan, f"{options.tool} explain {shlex.quote(str(options.dir))}"))
     return DONE if plan.verdict.accepted else REFUSED
 
 
@@ -113,7 +137,7 @@ def run_explain(options):
     plan = load(options)
     if not judged(plan):
         return REFUSED
-    print("\n".join(explain_lines(plan, step_at(plan, options.row))))
+    say(explain_lines(plan, step_at(plan, options.row)))
     return DONE
 
 
@@ -122,9 +146,9 @@ def run_picture(options):
     if not judged(plan):
         return REFUSED
     step = None if options.row is None else step_at(plan, options.row)
-    path = options.dir / ("picture.svg" if step is None else f"picture-row-{options.row}.svg")
-    path.write_text(draw_plan(plan, step), encoding="utf-8")
-    print(f"Drawn: {path}")
+    name = "picture.svg" if step is None else f"picture-row-{options.row}.svg"
+    disk.put(options.dir, {name: draw_plan(plan, step).encode()})
+    say([f"Drawn: {options.dir / name}"])
     return DONE
 
 
@@ -134,14 +158,14 @@ def run_csv(options):
         return REFUSED
     name = "answers.csv"
     disk.put(options.dir, {name: encode([ANSWER_COLUMNS] + answer_rows(plan), plan.table.form)})
-    print(f"Written: {options.dir / name}")
+    say([f"Written: {options.dir / name}"])
     return DONE
 
 
 def run_import(options):
     """Tables from a line.bin; a session.bin beside it becomes visit.csv."""
     folder, beside = options.dir or options.line.parent, options.line.parent / office.SESSION
-    data = options.line.read_bytes()
+    data = disk.read(options.line)
     verdict = office.judge(office.find_office(options.office), data, b"")
     refusal = f"{options.line}: refused by question {verdict.refused_line}: {w.question(verdict.refused_line)}"
     if verdict.too_long:
@@ -153,9 +177,9 @@ def run_import(options):
         config, moves = unpack.read_line_bytes(data), []
         if beside.exists():
             source = beside
-            moves = unpack.read_session_bytes(beside.read_bytes())
+            moves = unpack.read_session_bytes(disk.read(beside))
     except unpack.Unreadable as fault:
         return fail(USAGE, f"{source}: {fault}")
     made = write_tables(folder, config, moves)
-    print(f"Made in {folder}: {', '.join(made)}")
+    say([f"Made in {folder}: {', '.join(made)}"])
     return fail(REFUSED, refusal) if verdict.refused_line else DONE

@@ -10,6 +10,7 @@ from dataclasses import dataclass
 from pathlib import Path
 
 from . import wording as w
+from .disk import plain, told
 from .unpack import Reader, Unreadable
 
 LINE, SESSION = "line.bin", "session.bin"
@@ -54,7 +55,10 @@ def built(root):
     judge = root / "judge"
     if not judge.exists():
         raise OfficeError(f"no office program: give --office PATH or set {VARIABLE}")
-    done = subprocess.run([str(judge), "--program"], cwd=root, stdout=subprocess.PIPE, text=True)
+    try:
+        done = subprocess.run([str(judge), "--program"], cwd=root, stdout=subprocess.PIPE, text=True)
+    except OSError as fault:
+        raise OfficeError(plain(fault, "run", judge)) from None
     if done.returncode != 0 or not done.stdout.strip():
         raise OfficeError("'./judge --program' did not give the office program")
     return root / done.stdout.strip().splitlines()[-1]
@@ -62,7 +66,7 @@ def built(root):
 
 def judge(office, line, session):
     """The verdict on the bytes of two files, which are put into a passing folder."""
-    with tempfile.TemporaryDirectory() as passing:
+    with told("write", "a passing folder for the office program"), tempfile.TemporaryDirectory() as passing:
         (Path(passing) / LINE).write_bytes(line)
         (Path(passing) / SESSION).write_bytes(session)
         return parse(run(office, passing), session)
@@ -72,8 +76,10 @@ def run(office, folder):
     """What the program prints in a folder. Any end but status 0 is a failure, whatever was printed before."""
     try:
         done = subprocess.run([str(office)], cwd=folder, capture_output=True, timeout=SECONDS)
-    except (OSError, subprocess.SubprocessError) as fault:
-        raise OfficeError(f"{office} could not be run: {fault}") from None
+    except OSError as fault:
+        raise OfficeError(plain(fault, "run", office)) from None
+    except subprocess.TimeoutExpired:
+        raise OfficeError(f"{office} did not end within {SECONDS} seconds: nothing is judged") from None
     if done.returncode < 0:
         raise OfficeError(f"{office} was ended by signal {-done.returncode}: nothing is judged")
     if done.returncode > 0:
