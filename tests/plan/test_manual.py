@@ -1,7 +1,8 @@
 """docs/PLANNER.md is true: its tables are put down, its commands typed as written, and they print what it shows.
 
-A line with nothing but a file's name in backquotes and a `csv` block below it is a table; a `console` block is a
-command after `$ ` and its output.
+A line with nothing but a file's name in backquotes and a `csv` block below it is a table; a `console` block is
+commands after `$ `, each with its output, and `console status=1` says how the last of them ends. There are no other
+blocks, so that no command stands there untried.
 """
 import os
 import re
@@ -10,38 +11,117 @@ import unittest
 from pathlib import Path
 
 from common import PROGRAM, ROOT, InFolder
+from planner import pack
+from planner import wording as w
+from planner.judged import judge_folder
+from planner.visit import Item, Move
 
 MANUAL = ROOT / "docs" / "PLANNER.md"
-TABLE = r"`(?P<file>[^`\n]+)`\n\n```csv\n(?P<table>.*?)```"
-CONSOLE = r"```console\n\$ (?P<command>[^\n]+)\n(?P<out>.*?)```"
-BLOCK = re.compile(f"^(?:{TABLE}|{CONSOLE})$", re.DOTALL | re.MULTILINE)
+FENCE = re.compile(r"^```(?P<kind>[^\n]*)\n(?P<body>.*?)^```$", re.DOTALL | re.MULTILINE)
+FILE = re.compile(r"`([^`\n]+)`\n\n\Z")
+CONSOLE = re.compile(r"console(?: status=(\d+))?")
+UP = "create,,1,\nactivate,Sorting control,1,\nactivate,Scanner,1,\nactivate,,1,Barcode table; Parcel counter\n"
+SCAN = "write,Sorting control,,Scanner ring = Scan parcels\nwrite,Scanner,,Barcode table = text A\n"
+# A rule as the page words it, a visit that runs into it, and the answers.
+RULES = (
+    ("It begins with nothing in use", "activate,Scale,1,\ncreate,,1,\nwrite,Scale,,#9 = text A\n", [14, 0, 16]),
+    ("A refused move changes nothing and is passed over", "create,,1,\ndestroy,,2,\ncreate,,2,\n", [0, 14, 0]),
+    ("the number is gone for good", "create,,1,\ndestroy,,1,\ncreate,,1,\ncreate,,2,\n", [0, 0, 14, 0]),
+    ("Only an empty partition can be\n  destroyed", UP + "destroy,,1,\n", [0, 0, 0, 0, 15]),
+    ("Activating clears", UP + SCAN + "deactivate,Scanner,,\nactivate,Scanner,1,\n" + SCAN.splitlines()[1] + "\n",
+     [0] * 8 + [18]),
+    ("What is activated must be in no partition", UP + "create,,2,\nactivate,Scanner,2,\n", [0] * 5 + [16]),
+    ("What acts or is deactivated must be in one", "deactivate,Scanner,,\nread,Scanner,,Scanner ring\n", [16, 16]),
+    ("Only external objects are activated and deactivated by themselves", UP + "activate,,1,Lane table\n",
+     [0] * 4 + [13]),
+    ("A hard-wired descriptor is never written, read or moved", UP + "read,Scanner,,Scanner wiring\n", [0] * 4 + [13]),
+    ("it may be read more than once", UP + "read,Sorting control,,Lane table; Lane table\n"
+     "read,Sorting control,,Lane table -> Parcel counter; Barcode table -> Parcel counter\n", [0] * 5 + [12]),
+)
 
 
 class Manual(InFolder):
-    def run_command(self, command):
-        done = subprocess.run(command.split(), stdout=subprocess.PIPE, stderr=subprocess.STDOUT, text=True, timeout=60,
-                              env={**os.environ, "KOLLUWAR_OFFICE": str(PROGRAM)})
-        return done.stdout
+    def setUp(self):
+        super().setUp()
+        Path("tools").symlink_to(ROOT / "tools")
+        self.text = MANUAL.read_text(encoding="utf-8")
+
+    def run_command(self, line):
+        """What a line of the shell prints, complaints too, and its status."""
+        done = subprocess.run(["bash", "-c", line], stdout=subprocess.PIPE, stderr=subprocess.STDOUT, text=True,
+                              timeout=60, env={**os.environ, "KOLLUWAR_OFFICE": str(PROGRAM)})
+        return done.stdout, done.returncode
+
+    def typed(self, body, status):
+        """The block as it comes out when its commands are typed; all but the last must end with 0."""
+        lines = re.findall(r"^\$ (.*)\n", body, re.MULTILINE)
+        made = ""
+        for place, line in enumerate(lines, 1):
+            printed, ended = self.run_command(line)
+            self.assertEqual(ended, status if place == len(lines) else 0, f"'{line}' ends otherwise")
+            self.commands += 1
+            made += f"$ {line}\n{printed}"
+        return made
 
     def test_what_it_shows(self):
-        Path("tools").symlink_to(ROOT / "tools")
-        text = MANUAL.read_text(encoding="utf-8")
-        parts, end = [], 0
-        for block in BLOCK.finditer(text):
-            if block["file"]:
-                Path(block["file"]).write_text(block["table"], encoding="utf-8")
+        self.commands, parts, end = 0, [], 0
+        for block in FENCE.finditer(self.text):
+            console, file = CONSOLE.fullmatch(block["kind"]), FILE.search(self.text[:block.start()])
+            if console:
+                parts += [self.text[end:block.start("body")], self.typed(block["body"], int(console[1] or 0))]
+                end = block.end("body")
                 continue
-            parts += [text[end:block.start("out")], self.run_command(block["command"])]
-            end = block.end("out")
-        self.assertGreater(len(parts), 14)
-        real = "".join(parts) + text[end:]
+            self.assertTrue(file and block["kind"] == "csv", f"nobody knows what this block is: {block[0]}")
+            Path(file[1]).write_text(block["body"], encoding="utf-8")
+        self.assertEqual(self.commands, len(re.findall(r"^ *\$ ", self.text, re.MULTILINE)))
+        self.assertGreater(self.commands, 7)
+        real = "".join(parts) + self.text[end:]
         self.same_as_stored(MANUAL, real.encode(), "docs/PLANNER.md shows other output")
 
+    def test_no_command_is_left_out(self):
+        """Every command of the help is typed on the page, and no line is set as one without being one."""
+        helped, _ = self.run_command("tools/plan --help")
+        for name in re.findall(r"^    (\w+) ", helped, re.MULTILINE):
+            self.assertRegex(self.text, rf"(?m)^\$ tools/plan {name} ")
+        self.assertEqual(re.findall(r"(?m)^(?: {4,}|\t)\S*(?:tools/plan|\./judge).*", FENCE.sub("", self.text)), [])
+
     def test_statuses_are_those_of_the_help(self):
-        Path("tools").symlink_to(ROOT / "tools")
-        helped = self.run_command("tools/plan --help")
-        rows = re.findall(r"^\| (\d) \| ", MANUAL.read_text(encoding="utf-8"), re.MULTILINE)
-        self.assertEqual(rows, re.findall(r"^  (\d)  ", helped, re.MULTILINE))
+        helped, _ = self.run_command("tools/plan --help")
+        rows = re.findall(r"^\| (\d+) \| ", self.text, re.MULTILINE)
+        self.assertEqual(rows, re.findall(r"^  (\d+)  ", helped, re.MULTILINE))
+
+    def test_limits(self):
+        """The table of limits is the tool's, and how many moves fit is what a visit of them takes."""
+        rows = re.findall(r"^\| ([a-z][^|]*) \| ([\d,]+) \|$", self.text, re.MULTILINE)
+        names = {"drivers": "drivers", "cards": "cards", "objects": "objects", "values": "values",
+                 "entries of a value": "entries of a value", "partitions, by number": "partitions",
+                 "items, pairs or objects in one move": "items of a move",
+                 "bytes of `session.bin`": "bytes of session.bin"}
+        wanted = {name: w.LIMITS[limit] for name, limit in names.items()}
+        wanted["bytes of what an object holds"] = w.CONTENT_BYTES
+        self.assertEqual({name: int(most.replace(",", "")) for name, most in rows}, wanted)
+        self.assertEqual(set(w.LIMITS) - set(names.values()), {"bytes of line.bin", "a number"})
+        short, long = (len(pack.session_bytes([move])) for move in (
+            Move(2, 5, where=1), Move(2, 1, 1, what=(Item(1, w.RAW_FORM),) * w.LIMITS["items of a move"])))
+        room = w.LIMITS["bytes of session.bin"]
+        self.assertIn(f"A move of named things takes {short} to {long} bytes of `session.bin`:\n{room // long} moves "
+                      f"always fit, and {room // short:,} of the shortest.", self.text)
+
+    def test_rules(self):
+        """Each rule stands on the page, and the program keeps it."""
+        for words, visit, answers in RULES:
+            self.assertIn(words, self.text)
+            (self.visit / "visit.csv").write_text("operation,who,where,what\n" + visit, encoding="utf-8")
+            self.assertEqual(list(judge_folder(PROGRAM, self.visit).verdict.answers), answers, words)
+
+    def test_rows_and_moves(self):
+        """What the page says of both numbers: a move's is the place that ./judge prints, blank rows left out."""
+        self.edit("visit.csv", "create,,Test bench", ",,,,\ncreate,,Test bench")
+        text, _ = self.run_command("tools/plan check examples/visit")
+        moves = re.findall(r"^row +(\d+) \(move +(\d+)\)  (?:accepted|refused (\d+)) ", text, re.MULTILINE)
+        places = subprocess.run([ROOT / "judge", "examples/visit"], capture_output=True, text=True).stdout
+        self.assertEqual([f"{move} {answer or 0}" for _, move, answer in moves], places.splitlines())
+        self.assertEqual([int(row) for row, _, _ in moves], [2, *range(4, 25)])
 
 
 if __name__ == "__main__":
