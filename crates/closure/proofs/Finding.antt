@@ -21,7 +21,7 @@ use Rattle.closure.specs.Words.{Has, PairIn}
 use Rattle.closure.specs.Search.{Parts, FineWord, Listed}
 use Rattle.closure.proofs.Digits as Digits
 use Rattle.closure.proofs.Digits.{bit-zero, pow-bit, pow-only, pick-bit, full-bit, or-out}
-use Rattle.closure.proofs.Growing.{set-word, wider-set, no-digit}
+use Rattle.closure.proofs.Giving.{set-word, wider-set, no-digit}
 
 -- the devices of each partition: one device more
 pub parts-more : (b : State) (t : List ℕ) (p c x : ℕ) → p < length t → 1 ≤ c → x ≡ 2 ^ (c - 1) → p ≡ deviceIn b c

@@ -1,7 +1,9 @@
 pub mod Digits
 pub mod Ranges
 pub mod Accepting
+pub mod Giving
 pub mod Growing
+pub mod Turning
 pub mod Starting
 pub mod Finding
 pub mod Answering

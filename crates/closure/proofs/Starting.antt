@@ -51,7 +51,8 @@ use Rattle.closure.proofs.Ranges.{
   owned-hardcoded,
   owned-of,
 }
-use Rattle.closure.proofs.Growing.{some-scene, set-word, no-digit, right-or, paired-wider}
+use Rattle.closure.proofs.Giving.{some-scene, set-word, no-digit, paired-wider}
+use Rattle.closure.proofs.Growing.{right-or}
 
 -- the device that a hardcoded descriptor belongs to is one of the configuration
 pub owners-of : (m : Scene) → OwnersOk (m .config .counts) (m .config .objects .class) (m .config .objects .owner)

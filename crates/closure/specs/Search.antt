@@ -119,8 +119,8 @@ Answers m bad Nothing =
     (c o v : ℕ) (e : Entry) → Reads (m .config) (m .storing) (m .state) c o v → List·Memᴰ e (entries (m .config) v)
     → bad c e ≡ true → ⊥
 
--- document 01, questions 19 and 20, for each case of a search's answer to question q: the number, q where it is answered
--- no and else 0; and the values, the device, the descriptor, the value and the entry's number in the value
+-- document 01, questions 19 and 20, for each case of a search's answer to question q: the number, q where it is
+-- answered no and else 0; and the values, the device, the descriptor, the value and the entry's number in the value
 abbrev pub findingMeans : ℕ → Finding → ℕ × List ℕ
 findingMeans q (Found c o v j) = (q, c ∷ o ∷ v ∷ j ∷ [])
 findingMeans q Nothing = (0, [])

@@ -203,7 +203,8 @@ module _ (s : List ℕ) where
       → FitsTable (onReading (stop t) r k) (pass (l ++ onReading (λ q. []) r g))
   unfolding onReading stop
   next-on (At next) l e t k g h =
-      subst (FitsTable (k next)) (sym (all-join (passes s) l (g next) ∙ ap (λ (b : Bool). b && pass (g next)) e)) (h next)
+      subst (FitsTable (k next)) (sym (all-join (passes s) l (g next) ∙ ap (λ (b : Bool). b && pass (g next)) e))
+      (h next)
   next-on (Refused q) l e t k g h = (all-join (passes s) l [] ∙ ap (λ (b : Bool). b && true) (e .0), e .1)
 
   turns-on : {T : Type 0} (g : ℕ → ℕ → T → List Asked) (f : ℕ → ℕ → T → Progress T)

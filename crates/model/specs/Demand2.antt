@@ -1,5 +1,6 @@
--- Demand 2, said of a whole operation call: for every file, state area, operation and answer area, whatever their length
--- and content. When it is accepted; and when it is refused for what devices could come to do (document 01: reach).
+-- Demand 2, said of a whole operation call: for every file, state area, operation and answer area, whatever their
+-- length and content. When it is accepted; and when it is refused for what devices could come to do (document 01:
+-- reach).
 use Prim.Native.Nat.{ℕ, _≤_}
 use mathlib.Core.Path.{_≡_}
 use mathlib.Core.Logic.{_↔_, _⊎_}
@@ -67,8 +68,8 @@ Acceptance =
 abbrev pub ByDriver : Operation → Type 0
 ByDriver op = (op .code ≡ 1) ⊎ (op .code ≡ 3)
 
--- document 01, 'Reach': an active device, a pair that it reads by the rules, and an entry of it that crosses (document 01:
--- is outside)
+-- document 01, 'Reach': an active device, a pair that it reads by the rules, and an entry of it that crosses (document
+-- 01: is outside)
 abbrev pub SomeCrosses : Config → State → Type 0
 SomeCrosses config b =
     (c o v : ℕ) × (e : Entry) × (active b c ≡ true) × Reads config true b c o v × List·Memᴰ e (entries config v)
@@ -85,8 +86,8 @@ Refusal19 =
 abbrev pub Leaving : Operation → Type 0
 Leaving op = (op .code ≡ 10) ⊎ ((op .code ≡ 11) ⊎ (op .code ≡ 12))
 
--- question 20: an active device, in code 11 another one, a pair that it reads by the rules, and an entry of it that names
--- an object concerned
+-- question 20: an active device, in code 11 another one, a pair that it reads by the rules, and an entry of it that
+-- names an object concerned
 abbrev pub SomeNames : Config → State → Operation → Type 0
 SomeNames config b op =
     (c o v : ℕ) × (e : Entry) × (active b c ≡ true) × (op .code ≡ 11 → c ≡ op .subject → ⊥)

@@ -1,5 +1,5 @@
--- Document 01, 'The questions', 1 to 6: each as a proposition of its own, about the numbers that a configuration file is
--- read for and the configuration that it tells. `load` (ConfigFile) answers with the first that is a no.
+-- Document 01, 'The questions', 1 to 6: each as a proposition of its own, about the numbers that a configuration file
+-- is read for and the configuration that it tells. `load` (ConfigFile) answers with the first that is a no.
 use Prim.Native.Nat.{ℕ, zero, suc, _+_, _≤_, _<_}
 use mathlib.Core.Path.{_≡_}
 use mathlib.Core.List.{List, [], _∷_, _++_, List·Memᴰ}
@@ -175,5 +175,6 @@ pub record FileYes (file : List ℕ) : Type 0 where
   pub y4 : (end : ℕ) → (told file) .reading ≡ At end → end ≡ length file
   -- question 5: has each device exactly one kind 4 object, and each kind 4 object a device as owner?
   pub y5 : paired ((told file) .table) ≡ true
-  -- question 6: does each hardcoded value name only its own device's objects, none of kind 4, and kind 1 by mode 1 only?
+  -- question 6: does each hardcoded value name only its own device's objects, none of kind 4, and kind 1 by mode 1
+  -- only?
   pub y6 : restrained ((told file) .table) ≡ true

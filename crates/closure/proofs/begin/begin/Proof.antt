@@ -23,7 +23,8 @@ use Rattle.closure.proofs.Starting.{
   seed-marked,
   seed-zero,
 }
-use Rattle.closure.proofs.Growing.{sound-set, no-digit}
+use Rattle.closure.proofs.Giving.{no-digit}
+use Rattle.closure.proofs.Growing.{sound-set}
 use Rattle.closure.proofs.begin.begin.Statement.{statement}
 use Rattle.closure.proofs.begin.begin.Tie as tie
 

@@ -5,7 +5,7 @@ use denote.Ref.{now}
 use Rattle.model.specs.Config.{mostDevices}
 use Rattle.closure.specs.Digits.{bit}
 use Rattle.closure.specs.Words.{Gave}
-use Rattle.closure.proofs.Growing.{gave-nobody}
+use Rattle.closure.proofs.Giving.{gave-nobody}
 use borrow.Author.Needs.{needs}
 use Rattle.closure.proofs.begin.seed.Statement.{statement}
 use Rattle.closure.proofs.begin.seed.Tie as tie

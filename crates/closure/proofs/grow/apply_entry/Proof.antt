@@ -1,7 +1,8 @@
 -- `closure::grow::apply_entry` meets its contract: the kind of the object decides. Assumes nothing.
 use denote.Ref.{now}
 use Rattle.model.specs.Config.{entryAt}
-use Rattle.closure.proofs.Growing.{grew-none, grew-then, followed-transfer, followed-hardcoded, followed-none}
+use Rattle.closure.proofs.Giving.{grew-none, grew-then}
+use Rattle.closure.proofs.Growing.{followed-transfer, followed-hardcoded, followed-none}
 use borrow.Author.Needs.{needs}
 use Rattle.closure.proofs.grow.apply_entry.Statement.{statement}
 use Rattle.closure.proofs.grow.apply_entry.Tie as tie

@@ -9,7 +9,8 @@ use denote.Ref.{now}
 use Rattle.closure.specs.Digits.{bit}
 use Rattle.closure.specs.Scene.{following}
 use Rattle.closure.proofs.Digits.{bit-zero}
-use Rattle.closure.proofs.Growing.{low-mod, fresh-each, going-none, suspected-of, going-some, fresh-slack}
+use Rattle.closure.proofs.Growing.{low-mod}
+use Rattle.closure.proofs.Turning.{fresh-each, going-none, suspected-of, going-some, fresh-slack}
 use borrow.Author.Needs.{needs}
 use Rattle.closure.proofs.grow.touch.Statement.{statement}
 use Rattle.closure.proofs.grow.touch.Tie as tie

@@ -104,10 +104,9 @@ element-copy-out-has :
 element-copy-out-has c = omega (arith, at-entry (c .before) .object)
 
 has-requires : tie.Need-has-requires Inv-loop2 μ-loop2 Inv-loop μ-loop Inv-search μ-search
-has-requires c κs = omega (
-  arith,
-  c .before .before .before .before .before .before .before .before .before .before .before .before .pre .0 .few-devices,
-)
+has-requires c κs =
+    let d = c .before .before .before .before .before .before in
+    omega (arith, d .before .before .before .before .before .before .pre .0 .few-devices)
 
 add-t29 : tie.Need-add-t29 Inv-loop2 μ-loop2 Inv-loop μ-loop Inv-search μ-search
 add-t29 c = omega arith
@@ -169,7 +168,8 @@ returns c = λ n o l e q. c .before .search .inv .2 n (omega arith) e o q
 
 returns-2 : tie.Need-returns-2 Inv-loop2 μ-loop2 Inv-loop μ-loop Inv-search μ-search
 returns-2 c =
-    let a = c .before .before .before .before .before .before .before .before .before .before .before .before .before .before in
+    let d = c .before .before .before .before .before .before .before in
+    let a = d .before .before .before .before .before .before .before in
     let i = c .before .before .before .before .before .before .before .before .before .before .search .i in
     let l = c .before .before .before .before .before .before .listed .ensures in
     let b = c .before .before .before .before .before .loop2 in

@@ -10,7 +10,7 @@ use Rattle.closure.specs.Words.{slack}
 use Rattle.closure.specs.Search.{Going}
 use Rattle.closure.specs.Scene.{Scene, following, objectSlots, valueSlots}
 use Rattle.closure.proofs.Digits.{bit-zero}
-use Rattle.closure.proofs.Growing.{ended-of}
+use Rattle.closure.proofs.Turning.{ended-of}
 use Rattle.closure.proofs.settle.settle.Statement.{statement}
 use Rattle.closure.proofs.settle.settle.Tie as tie
 
@@ -21,7 +21,8 @@ Inv-loop counts kind count entries fine known₀ reach₀ done₀ todo last d₀
     (following m counts kind count entries true) fine known reach done d)
 
 abbrev μ-loop : tie.MeasureT-loop
-μ-loop counts kind count entries fine known₀ reach₀ done₀ todo last d₀ from₀ known reach done d from = slack done * 2 ^ 64 + d
+μ-loop counts kind count entries fine known₀ reach₀ done₀ todo last d₀ from₀ known reach done d from =
+    slack done * 2 ^ 64 + d
 
 cast-last : tie.Need-cast-last Inv-loop μ-loop
 cast-last c = search needs

@@ -5,7 +5,7 @@ use Prim.Native.Nat.{_<_}
 use native.Mathlib.Omega.{arith}
 use denote.Ref.{now}
 use borrow.Author.Tests.{not-true, not-false}
-use Rattle.closure.proofs.Growing.{grew-none, grew-admit, added-none, added-old, added-some}
+use Rattle.closure.proofs.Giving.{grew-none, grew-admit, added-none, added-old, added-some}
 use borrow.Author.Needs.{needs}
 use Rattle.closure.proofs.spread.admit.Statement.{statement}
 use Rattle.closure.proofs.spread.admit.Tie as tie

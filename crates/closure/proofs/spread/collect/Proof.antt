@@ -8,7 +8,7 @@ use native.Mathlib.Omega.{arith}
 use denote.Ref.{now}
 use borrow.Author.Tests.{not-true, not-false}
 use Rattle.closure.specs.Words.{Added}
-use Rattle.closure.proofs.Growing.{grew-none, grew-collect, added-none, added-old, added-some}
+use Rattle.closure.proofs.Giving.{grew-none, grew-collect, added-none, added-old, added-some}
 use borrow.Author.Needs.{needs}
 use Rattle.closure.proofs.spread.collect.Statement.{statement}
 use Rattle.closure.proofs.spread.collect.Tie as tie

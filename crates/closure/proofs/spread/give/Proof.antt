@@ -2,7 +2,7 @@
 -- nothing.
 use native.Mathlib.Omega.{arith}
 use denote.Ref.{now}
-use Rattle.closure.proofs.Growing.{gave-none, gave-one}
+use Rattle.closure.proofs.Giving.{gave-none, gave-one}
 use borrow.Author.Needs.{needs}
 use Rattle.closure.proofs.spread.give.Statement.{statement}
 use Rattle.closure.proofs.spread.give.Tie as tie

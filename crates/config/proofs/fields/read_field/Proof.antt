@@ -24,7 +24,8 @@ returns c =
 
 returns-2 : tie.Need-returns-2
 returns-2 c =
-    Laws.field-low _ _ _ _ _ (c .before .before .before .before .decode .ensures .0) _ _ (c .before .before .n .given .1)
+    Laws.field-low _ _ _ _ _ (c .before .before .before .before .decode .ensures .0) _ _
+    (c .before .before .n .given .1)
     (c .if1 .taken)
 
 returns-3 : tie.Need-returns-3
