@@ -1,6 +1,6 @@
 #!/usr/bin/env python3
-"""The edits that must be refused: docs/SPECIFICATION.md lists each once, with the fact at which it is refused, and lists
-no other; and each replaces text that stands in its file exactly once.
+"""The edits that must be refused: docs/SPECIFICATION.md lists each once, with the fact at which it is refused, and
+lists no other; and each replaces text that stands in its file exactly once.
 
     tests/edits.py
 """

@@ -1,8 +1,8 @@
 #!/usr/bin/env bash
 # Layout and warnings of all that is not Rattle: C by clang-format and gcc, the examples for C++ hosts by g++ too, Rust
-# by rustfmt and clippy, Python by its compiler, shell scripts by bash. A fault ends the script, and so does a tool that
-# is not installed, which is named; with --lenient such a tool is named and left out. Needs no network and no built
-# library.
+# by rustfmt and clippy, Python by its compiler, shell scripts by bash; and the sizes of all files, of Rattle too. A
+# fault ends the script, and so does a tool that is not installed, which is named; with --lenient such a tool is named
+# and left out. Needs no network and no built library.
 set -euo pipefail
 cd "$(dirname "$0")/.."
 out=$(mktemp -d)
@@ -115,7 +115,29 @@ for name in sys.argv[1:]:
     echo "lint: ${#python[@]} Python files and ${#shell[@]} shell scripts"
 }
 
+# No line of over 120 characters, no file of much more than 400 lines.
+lint_sizes() {
+    mapfile -t written < <(files | grep -E '\.(antt|rt|rs|c|h|py|sh)$')
+    python3 -W error -c '
+import sys
+wide, most, faults = 120, 410, 0
+for name in sys.argv[1:]:
+    with open(name, encoding="utf-8") as file:
+        rows = file.read().split("\n")
+    for place, row in enumerate(rows, 1):
+        if len(row) > wide:
+            print(f"lint: {name}, line {place}, has {len(row)} characters", file=sys.stderr)
+            faults += 1
+    if len(rows) > most:
+        print(f"lint: {name} has {len(rows)} lines", file=sys.stderr)
+        faults += 1
+sys.exit(faults > 0 or not sys.argv[1:])
+' "${written[@]}"
+    echo "lint: the sizes of ${#written[@]} files"
+}
+
 lint_c
 lint_cpp
 lint_rust
 lint_scripts
+lint_sizes
