@@ -7,10 +7,10 @@ use mathlib.Core.List.{List, [], _∷_, _++_, List·Memᴰ, List·Memᴰ·head, 
 use mathlib.Core.Bool.{Bool, true, false, cond, _&&_, false≢true}
 use native.Mathlib.Omega.{arith}
 use lib.ListN.{length}
-use lib.Dec.{ltb, leb, eqb}
-use borrow.Author.Tests.{eqb-true, eq-eqb, lt-ltb, ltb-true, le-leb, leb-true}
+use lib.Dec.{leb, eqb}
+use borrow.Author.Tests.{eqb-true, eq-eqb}
 use Rattle.model.specs.Base.{all}
-use Rattle.model.specs.Number.{lead, formed, formAt, headAt, numberAt}
+use Rattle.model.specs.Number.{numberAt}
 use Rattle.model.specs.Config.{
   mostDrivers,
   mostDevices,
@@ -60,10 +60,6 @@ use Rattle.model.specs.ConfigFile.{
 use Rattle.model.specs.FileQuestions.{
   Asked,
   rest,
-  size,
-  LastByte,
-  RightForm,
-  InRange,
   asks,
   countsAsked,
   objectAsked,
@@ -85,7 +81,6 @@ use Rattle.model.specs.FileQuestions.{
 use Rattle.model.specs.declared.Num.{Num}
 use Rattle.model.specs.declared.Num.the-variants.{Got, Bad}
 use Rattle.model.specs.declared.Fault.the-variants.{Cut, Form}
-use Rattle.model.specs.declared.Field.{Field}
 use Rattle.model.specs.declared.Field.the-variants.{Value, No}
 use Rattle.model.specs.declared.Reading.{Reading}
 use Rattle.model.specs.declared.Reading.the-variants.{At, Refused}
@@ -97,61 +92,8 @@ use Rattle.model.specs.declared.Devices.{Devices}
 use Rattle.model.specs.declared.Values.{Values}
 use Rattle.model.specs.declared.Config.{Config}
 use Rattle.model.specs.declared.Loaded.{Loaded}
-use Rattle.model.proofs.Lists.{and-l, and-r, both-true, all-mem}
-
--- a field that is a number in its range; a number that is one
-abbrev isValue : Field → Bool
-isValue (Value v next) = true
-isValue (No q) = false
-
-abbrev passes : List ℕ → Asked → Bool
-passes s a = isValue (fieldAt s (a .at) (a .low) (a .high))
-
--- it passes exactly if 1, 2 and 3 are a yes
-module _ (s : List ℕ) (a : Asked) where
-  three-tests : passes s a
-      ≡ (ltb (lead (rest s a)) (length (rest s a))
-      && (formed (rest s a) (lead (rest s a)) && (leb (a .low) (size s a) && leb (size s a) (a .high))))
-  unfolding fieldAt ranged numberAt headAt formAt
-  three-tests = go (ltb (lead (rest s a)) (length (rest s a))) (formed (rest s a) (lead (rest s a))) _
-    where
-      tested : (t : Bool) (v next : ℕ) → isValue (cond t (Value v next) (No 3)) ≡ t
-      tested true v next = refl
-      tested false v next = refl
-
-      go : (t u : Bool) (next : ℕ)
-          → isValue (ranged (a .low) (a .high) (cond t (cond u (Got (size s a) next) (Bad Form)) (Bad Cut)))
-          ≡ (t && (u && (leb (a .low) (size s a) && leb (size s a) (a .high))))
-      go true true next = tested (leb (a .low) (size s a) && leb (size s a) (a .high)) (size s a) next
-      go true false next = refl
-      go false u next = refl
-
-  -- the four tests
-  abbrev ends : Bool
-  ends = ltb (lead (rest s a)) (length (rest s a))
-
-  abbrev forms : Bool
-  forms = formed (rest s a) (lead (rest s a))
-
-  abbrev least : Bool
-  least = leb (a .low) (size s a)
-
-  abbrev most : Bool
-  most = leb (size s a) (a .high)
-
-  pass-yes : passes s a ≡ true → LastByte s a × RightForm s a × InRange s a
-  pass-yes h =
-      let k = sym three-tests ∙ h in
-      let r = and-r ends (forms && (least && most)) k in
-      let q = and-r forms (least && most) r in (
-        ltb-true _ _ (and-l ends (forms && (least && most)) k),
-        and-l forms (least && most) r,
-        (leb-true _ _ (and-l least most q), leb-true _ _ (and-r least most q)),
-      )
-
-  yes-pass : LastByte s a → RightForm s a → InRange s a → passes s a ≡ true
-  yes-pass h k q =
-      three-tests ∙ both-true (lt-ltb _ _ h) (both-true k (both-true (le-leb _ _ (q .0)) (le-leb _ _ (q .1))))
+use Rattle.model.proofs.Lists.{both-true, all-mem}
+use Rattle.model.proofs.FileNumbers.{isValue, passes, pass-yes, yes-pass}
 
 -- a reading that passed, by a test, goes on; one that did not is refused by a question
 abbrev Fits : Reading → Bool → Type 0

@@ -32,6 +32,7 @@ pub mod AnswerRange
 pub mod OfficeLength
 pub mod Programs
 pub mod NumberMeans
+pub mod FileNumbers
 pub mod FileQuestions
 pub mod Demand2Calls
 pub mod FreshAnswers
