@@ -66,6 +66,7 @@ check: $(library)
 	bash tests/archive.sh
 	python3 tests/line_l.py
 	python3 tests/edits.py
+	python3 tests/times.py --check
 	bash tests/install.sh
 	bash tests/storing.sh
 	python3 bench/stack.py
