@@ -67,6 +67,7 @@ check: $(library)
 	python3 tests/line_l.py
 	python3 tests/edits.py
 	python3 tests/times.py --check
+	python3 tests/index.py --check
 	bash tests/install.sh
 	bash tests/storing.sh
 	python3 bench/stack.py
