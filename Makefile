@@ -68,6 +68,7 @@ check: $(library)
 	python3 tests/edits.py
 	python3 tests/times.py --check
 	python3 tests/index.py --check
+	python3 tests/named.py
 	bash tests/install.sh
 	bash tests/storing.sh
 	python3 bench/stack.py
