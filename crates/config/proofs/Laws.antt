@@ -122,11 +122,11 @@ head-within : (s : List ℕ) → WithinHead (countsAt s)
 unfolding countsAt
 head-within s =
     field-within s 0 1 1 _ λ edition a _.
-    field-within s a 0 mostDrivers _ λ d b _.
+    field-within s a 0 mostDrivers _ λ d b hd.
     field-within s b 0 mostDevices _ λ v c hv.
     field-within s c 0 mostObjects _ λ n e hn.
     field-within s e 0 mostValues _ λ k next hk.
-    record { devices = hv; objects = hn; values = hk }
+    record { drivers = hd; devices = hv; objects = hn; values = hk }
 
 pub counts-within : (s : List ℕ) {h : Head} {n : Counts} {next : ℕ} → h ≡ countsAt s → h ≡ Counted n next → Within n
 counts-within s e z = subst WithinHead (sym e ∙ z) (head-within s)

@@ -1,7 +1,7 @@
 -- The groups of a configuration as the columns that the readers are lent.
 use Prim.Native.Nat.{ℕ, _≤_}
 use mathlib.Core.List.{List}
-use Rattle.model.specs.Config.{mostDevices, mostObjects, mostValues}
+use Rattle.model.specs.Config.{mostDrivers, mostDevices, mostObjects, mostValues}
 use Rattle.model.specs.ConfigFile.{Progress}
 use Rattle.model.specs.declared.Reading.{Reading}
 use Rattle.model.specs.declared.Counts.{Counts}
@@ -24,6 +24,7 @@ progress r t = record { reading = r; table = t }
 
 -- the counts are within the columns
 pub record Within (counts : Counts) : Type 0 where
+  pub drivers : counts .drivers ≤ mostDrivers
   pub devices : counts .devices ≤ mostDevices
   pub objects : counts .objects ≤ mostObjects
   pub values : counts .values ≤ mostValues

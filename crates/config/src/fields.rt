@@ -1,6 +1,9 @@
 // One number of the file in its field's range, and the question of what is refused.
 ghost use mathlib.Core.Path.{_≡_};
+ghost use Prim.Native.Nat.{_-_};
+ghost use lib.ListN.{length};
 ghost use Rattle.model.specs.ConfigFile.{numQuestion, fieldAt, fieldQuestion, readingQuestion, headQuestion};
+ghost use Rattle.config.specs.Quick.{oneByteMost};
 use model::Fault;
 use model::Field;
 use model::Head;
@@ -45,6 +48,23 @@ pub fn head_question(h: Head) -> u8
         Head::Stopped(q) => q,
         Head::Counted(_, _) => 0,
     }
+}
+
+// A number below this has one byte.
+const ONE_BYTE: u8 = 128;
+
+// The largest number of one byte that is at most `most`.
+pub fn one_byte_most(most: u8) -> u8
+    ensures { λ r. ⌜ r ≡ oneByteMost most ⌝ }
+{
+    if most < ONE_BYTE { most } else { ONE_BYTE - 1 }
+}
+
+// A place below this has two more bytes after its own.
+pub fn reach(s: &[u8]) -> usize
+    ensures { λ r. ⌜ r ≡ length (now (s .entry)) - 2 ⌝ }
+{
+    if s.len() < 2 { 0 } else { s.len() - 2 }
 }
 
 // The number at `at` for a field from low to high: question 1, then 2, then 3.

@@ -7,7 +7,9 @@ ghost use Rattle.model.specs.declared.Reading.the-variants.{Refused};
 ghost use Rattle.model.specs.Config.{mostDevices, mostObjects};
 ghost use Rattle.model.specs.ConfigFile.{fieldQuestion, countsAt, ownerLeast, ownerMost, object, device, turns};
 ghost use Rattle.config.specs.Columns.{objectsOf, devicesOf, progress, Within};
+ghost use Rattle.config.specs.Quick.{isObject};
 use crate::fields::field_question;
+use crate::fields::reach;
 use crate::fields::read_field;
 use model::Counts;
 use model::DEVICE_SLOTS;
@@ -90,8 +92,8 @@ fn owner_most(counts: Counts, class: u8) -> u8
     }
 }
 
-// Object o: kind, owner's class, owner's number.
-fn read_object(
+// Object o, field by field: kind, owner's class, owner's number.
+fn object_by_fields(
     s: &[u8],
     counts: Counts,
     o: u8,
@@ -125,6 +127,47 @@ fn read_object(
     class[i] = c;
     owner[i] = w;
     Reading::At(next)
+}
+
+// The bytes of an object's kind, class and owner are numbers in their ranges.
+fn is_object(counts: Counts, k: u8, c: u8, w: u8) -> bool
+    ensures { λ r. ⌜ r ≡ isObject counts k c w ⌝ }
+{
+    let least = owner_least(c);
+    let most = owner_most(counts, c);
+    (1 <= k) & (k <= MOST_KIND) & (c <= MOST_CLASS) & (least <= w) & (w <= most)
+}
+
+// Object o: as most have it, in three bytes; else field by field, which finds what is refused.
+fn read_object(
+    s: &[u8],
+    counts: Counts,
+    o: u8,
+    at: usize,
+    kind: &mut [u8; OBJECT_SLOTS],
+    class: &mut [u8; OBJECT_SLOTS],
+    owner: &mut [u8; OBJECT_SLOTS],
+) -> Reading
+    requires { ⌜ o ≤ mostObjects ⌝ }
+    requires { ⌜ Within counts ⌝ }
+    ensures { λ r.
+        ⌜ progress r (objectsOf (now (kind .exit)) (now (class .exit)) (now (owner .exit)))
+        ≡ object (now (s .entry)) counts o at
+        (objectsOf (now (kind .entry)) (now (class .entry)) (now (owner .entry))) ⌝ }
+{
+    if at < reach(s) {
+        let k = s[at];
+        let c = s[at + 1];
+        let w = s[at + 2];
+        if is_object(counts, k, c, w) {
+            let i = o as usize;
+            kind[i] = k;
+            class[i] = c;
+            owner[i] = w;
+            return Reading::At(at + 3);
+        }
+    }
+    object_by_fields(s, counts, o, at, kind, class, owner)
 }
 
 // Objects 1 to N.

@@ -5,6 +5,10 @@ ghost use mathlib.Core.List.{List};
 ghost use Rattle.model.specs.Config.{mostObjects, mostValues, mostEntries};
 ghost use Rattle.model.specs.ConfigFile.{storedMost, entry, value, turns};
 ghost use Rattle.config.specs.Columns.{valuesOf, progress, Within};
+ghost use lib.Dec.{leb};
+ghost use Rattle.config.specs.Quick.{namesObject};
+use crate::fields::one_byte_most;
+use crate::fields::reach;
 use crate::fields::read_field;
 use crate::groups::refused;
 use model::Counts;
@@ -31,8 +35,8 @@ fn stored_most(counts: Counts, kinds: &[u8; OBJECT_SLOTS], o: u8, mode: u8) -> u
     if mode < WRITE_MODE { 0 } else { counts.values }
 }
 
-// Entry j, from 1, of value v: object, mode, stored value. What `count` holds does not matter to it.
-fn read_entry(
+// Entry j, from 1, of value v, field by field: object, mode, stored value. What `count` holds does not matter to it.
+fn entry_by_fields(
     s: &[u8],
     counts: Counts,
     kinds: &[u8; OBJECT_SLOTS],
@@ -65,6 +69,58 @@ fn read_entry(
     entries[e + 1] = mode;
     entries[e + 2] = w;
     Reading::At(next)
+}
+
+// The bytes of an entry's object and mode are numbers in their ranges.
+fn names_object(counts: Counts, o: u8, mode: u8) -> bool
+    ensures { λ r. ⌜ r ≡ namesObject counts o mode ⌝ }
+{
+    let most = one_byte_most(counts.objects);
+    (1 <= o) & (o <= most) & (1 <= mode) & (mode <= MOST_MODE)
+}
+
+// The stored value of an entry is in its range. Every range has 0, so that the kind is looked up for others only.
+fn may_store(counts: Counts, kinds: &[u8; OBJECT_SLOTS], o: u8, mode: u8, w: u8) -> bool
+    requires { ⌜ o ≤ mostObjects ⌝ }
+    ensures { λ r. ⌜ r ≡ leb w (storedMost counts (now (kinds .entry)) o mode) ⌝ }
+{
+    if w == 0 {
+        return true;
+    }
+    w <= stored_most(counts, kinds, o, mode)
+}
+
+// Entry j of value v: as most have it, in three bytes; else field by field, which finds what is refused.
+fn read_entry(
+    s: &[u8],
+    counts: Counts,
+    kinds: &[u8; OBJECT_SLOTS],
+    v: u8,
+    j: u8,
+    at: usize,
+    entries: &mut [u8; ENTRY_SLOTS],
+) -> Reading
+    requires { ⌜ (v ≤ mostValues) × (j ≤ mostEntries) ⌝ }
+    requires { ⌜ Within counts ⌝ }
+    ensures { λ r.
+        ⌜ ((count : List ℕ) → progress r (valuesOf count (now (entries .exit)))
+        ≡ entry (now (s .entry)) counts (now (kinds .entry)) v j at (valuesOf count (now (entries .entry)))) ⌝ }
+{
+    if at < reach(s) {
+        let o = s[at];
+        let mode = s[at + 1];
+        let w = s[at + 2];
+        if names_object(counts, o, mode) {
+            if may_store(counts, kinds, o, mode, w) {
+                let e = entry_place(v, j);
+                entries[e] = o;
+                entries[e + 1] = mode;
+                entries[e + 2] = w;
+                return Reading::At(at + 3);
+            }
+        }
+    }
+    entry_by_fields(s, counts, kinds, v, j, at, entries)
 }
 
 // Entries 1 to n of value v.

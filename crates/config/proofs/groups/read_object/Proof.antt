@@ -1,84 +1,33 @@
--- `config::groups::read_object` meets its contract: each field that goes on is an `on-go`, the one that is refused an
--- `on-stop`; the stores compute to `setObject`. Assumes nothing.
-use mathlib.Core.Path.{refl}
+-- `config::groups::read_object` meets its contract: three bytes by the law `object-quick`, the rest is the callee's.
+-- Assumes nothing.
 use borrow.Author.Needs.{needs}
-use Rattle.model.specs.ConfigFile.{object, stop, read, setObject}
-use Rattle.config.proofs.Laws
+use mathlib.Core.Path.{refl, sym, _∙_}
+use native.Mathlib.Omega.{arith}
+use Rattle.model.specs.ConfigFile.{read, setObject}
+use Rattle.config.proofs.Quick
 use Rattle.config.proofs.groups.read_object.Statement.{statement}
 use Rattle.config.proofs.groups.read_object.Tie as tie
 
-read-field-requires : tie.Need-read-field-requires
-read-field-requires c κs = search needs
+reach-requires : tie.Need-reach-requires
+reach-requires c κs = search needs
 
-enum-known-f : tie.Need-enum-known-f
-enum-known-f c = search needs
+shared-slice-read-k : tie.Need-shared-slice-read-k
+shared-slice-read-k c = search needs
 
-enum-told : tie.Need-enum-told
-enum-told c = search needs
+add-c : tie.Need-add-c
+add-c c = search needs
 
-refused-requires : tie.Need-refused-requires
-refused-requires c κs = search needs
+shared-slice-read-c : tie.Need-shared-slice-read-c
+shared-slice-read-c c = search needs
 
-returns : tie.Need-returns
-unfolding object stop read setObject
-returns c =
-    Laws.on-stop _ _ _ (c .before .before .before .read-field .ensures) (c .before .enum-told .given .1)
-    (rw (c .refused .ensures))
+add-w : tie.Need-add-w
+add-w c = search needs
 
-read-field-requires-2 : tie.Need-read-field-requires-2
-read-field-requires-2 c κs = search needs
+shared-slice-read-w : tie.Need-shared-slice-read-w
+shared-slice-read-w c = search needs
 
-enum-known-g : tie.Need-enum-known-g
-enum-known-g c = search needs
-
-enum-told-2 : tie.Need-enum-told-2
-enum-told-2 c = search needs
-
-refused-requires-2 : tie.Need-refused-requires-2
-refused-requires-2 c κs = search needs
-
-returns-2 : tie.Need-returns-2
-unfolding object stop read setObject
-returns-2 c =
-    Laws.on-go _ _ _ (c .before .before .before .before .before .before .before .read-field .ensures)
-    (c .before .before .before .before .before .f .given .1)
-    (Laws.on-stop _ _ _ (c .before .before .before .read-field2 .ensures) (c .before .enum-told2 .given .1)
-    (rw (c .refused2 .ensures)))
-
-owner-least-requires : tie.Need-owner-least-requires
-owner-least-requires c κs = search needs
-
-owner-most-requires : tie.Need-owner-most-requires
-owner-most-requires c κs = search needs
-
-read-field-requires-3 : tie.Need-read-field-requires-3
-read-field-requires-3 c κs = search needs
-
-enum-known-h : tie.Need-enum-known-h
-enum-known-h c = search needs
-
-enum-told-3 : tie.Need-enum-told-3
-enum-told-3 c = search needs
-
-refused-requires-3 : tie.Need-refused-requires-3
-refused-requires-3 c κs = search needs
-
-returns-3 : tie.Need-returns-3
-unfolding object stop read setObject
-returns-3 c =
-    Laws.on-go _ _ _
-    (c .before .before .before .before .before .before .before .before .before .before .before .before .before
-    .read-field .ensures)
-    (c .before .before .before .before .before .before .before .before .before .before .before .f .given .1)
-    (Laws.on-go _ _ _
-    (c .before .before .before .before .before .before .before .before .before .read-field2 .ensures)
-    (c .before .before .before .before .before .before .before .g .given .1)
-    (Laws.on-stop _ _ _ (cc (
-      c .before .before .before .read-field3 .ensures,
-      c .before .before .before .before .owner-most .ensures,
-      c .before .before .before .before .before .owner-least .ensures,
-    )) (c .before .enum-told3 .given .1)
-    (rw (c .refused3 .ensures))))
+is-object-requires : tie.Need-is-object-requires
+is-object-requires c κs = search needs
 
 element-write-kind : tie.Need-element-write-kind
 element-write-kind c = search needs
@@ -89,45 +38,41 @@ element-write-class c = search needs
 element-write-owner : tie.Need-element-write-owner
 element-write-owner c = search needs
 
-returns-4 : tie.Need-returns-4
-unfolding object stop read setObject
-returns-4 c =
-    Laws.on-go _ _ _
-    (c .before .before .before .before .before .before .before .before .before .before .before .before .before
-    .read-field .ensures)
-    (c .before .before .before .before .before .before .before .before .before .before .before .f .given .1)
-    (Laws.on-go _ _ _
-    (c .before .before .before .before .before .before .before .before .before .read-field2 .ensures)
-    (c .before .before .before .before .before .before .before .g .given .1)
-    (Laws.on-go _ _ _ (cc (
-      c .before .before .before .read-field3 .ensures,
-      c .before .before .before .before .owner-most .ensures,
-      c .before .before .before .before .before .owner-least .ensures,
-    )) (c .before .h .given .1)
-    (refl)))
+add-t26 : tie.Need-add-t26
+add-t26 c = search needs
+
+returns : tie.Need-returns
+unfolding read setObject
+returns c =
+    Quick.object-quick _ _ _ _ _ _ _ _
+    (omega (
+      arith,
+      c .before .before .before .before .before .before .reach .ensures,
+      c .before .before .before .before .before .if1 .taken,
+    )) refl refl refl
+    (sym (c .before .is-object .ensures) ∙ c .if2 .taken) (search needs)
+
+object-by-fields-requires : tie.Need-object-by-fields-requires
+object-by-fields-requires c κs = search needs
+
+returns-2 : tie.Need-returns-2
+returns-2 c = search needs
 
 pub read-object-spec : {M : Type 1} → statement M
 read-object-spec =
     tie.close
     (tie.spec
-    read-field-requires
-    enum-known-f
-    enum-told
-    refused-requires
-    returns
-    read-field-requires-2
-    enum-known-g
-    enum-told-2
-    refused-requires-2
-    returns-2
-    owner-least-requires
-    owner-most-requires
-    read-field-requires-3
-    enum-known-h
-    enum-told-3
-    refused-requires-3
-    returns-3
+    reach-requires
+    shared-slice-read-k
+    add-c
+    shared-slice-read-c
+    add-w
+    shared-slice-read-w
+    is-object-requires
     element-write-kind
     element-write-class
     element-write-owner
-    returns-4)
+    add-t26
+    returns
+    object-by-fields-requires
+    returns-2)

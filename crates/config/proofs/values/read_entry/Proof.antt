@@ -1,79 +1,37 @@
--- `config::values::read_entry` meets its contract: each field that goes on is an `on-go`, the one that is refused an
--- `on-stop`; the stores compute to `setEntry`. Assumes nothing.
-use native.Mathlib.Omega.{arith}
+-- `config::values::read_entry` meets its contract: three bytes by the law `entry-quick`, the rest is the callee's.
+-- Assumes nothing.
 use borrow.Author.Needs.{needs}
-use Rattle.model.specs.ConfigFile.{entry, stop, read, setEntry}
-use Rattle.config.proofs.Laws
+use mathlib.Core.Path.{refl, sym, _∙_}
+use native.Mathlib.Omega.{arith}
+use Rattle.model.specs.ConfigFile.{read, setEntry}
+use Rattle.config.proofs.Quick
 use Rattle.config.proofs.values.read_entry.Statement.{statement}
 use Rattle.config.proofs.values.read_entry.Tie as tie
 
-read-field-requires : tie.Need-read-field-requires
-read-field-requires c κs = search needs
+reach-requires : tie.Need-reach-requires
+reach-requires c κs = search needs
 
-enum-known-f : tie.Need-enum-known-f
-enum-known-f c = search needs
+shared-slice-read-o : tie.Need-shared-slice-read-o
+shared-slice-read-o c = search needs
 
-enum-told : tie.Need-enum-told
-enum-told c = search needs
+add-mode : tie.Need-add-mode
+add-mode c = search needs
 
-refused-requires : tie.Need-refused-requires
-refused-requires c κs = search needs
+shared-slice-read-mode : tie.Need-shared-slice-read-mode
+shared-slice-read-mode c = search needs
 
-returns : tie.Need-returns
-unfolding entry stop read setEntry
-returns c =
-    λ count. Laws.on-stop _ _ _ (c .before .before .before .read-field .ensures) (c .before .enum-told .given .1)
-    (rw (c .refused .ensures))
+add-w : tie.Need-add-w
+add-w c = search needs
 
-read-field-requires-2 : tie.Need-read-field-requires-2
-read-field-requires-2 c κs = search needs
+shared-slice-read-w : tie.Need-shared-slice-read-w
+shared-slice-read-w c = search needs
 
-enum-known-g : tie.Need-enum-known-g
-enum-known-g c = search needs
+names-object-requires : tie.Need-names-object-requires
+names-object-requires c κs = search needs
 
-enum-told-2 : tie.Need-enum-told-2
-enum-told-2 c = search needs
-
-refused-requires-2 : tie.Need-refused-requires-2
-refused-requires-2 c κs = search needs
-
-returns-2 : tie.Need-returns-2
-unfolding entry stop read setEntry
-returns-2 c =
-    λ count. Laws.on-go _ _ _ (c .before .before .before .before .before .before .before .read-field .ensures)
-    (c .before .before .before .before .before .f .given .1)
-    (Laws.on-stop _ _ _ (c .before .before .before .read-field2 .ensures) (c .before .enum-told2 .given .1)
-    (rw (c .refused2 .ensures)))
-
-stored-most-requires : tie.Need-stored-most-requires
-stored-most-requires c κs =
-    let h = Laws.field-most _ _ _ _ (c .before .before .before .before .before .before .before .read-field .ensures)
-    (c .before .before .before .before .before .f .given .1) in
-    let w = c .before .before .before .before .before .before .before .before .before .args in omega (arith, h)
-
-read-field-requires-3 : tie.Need-read-field-requires-3
-read-field-requires-3 c κs = search needs
-
-enum-known-h : tie.Need-enum-known-h
-enum-known-h c = search needs
-
-enum-told-3 : tie.Need-enum-told-3
-enum-told-3 c = search needs
-
-refused-requires-3 : tie.Need-refused-requires-3
-refused-requires-3 c κs = search needs
-
-returns-3 : tie.Need-returns-3
-unfolding entry stop read setEntry
-returns-3 c =
-    λ count. Laws.on-go _ _ _
-    (c .before .before .before .before .before .before .before .before .before .before .before .before .read-field
-    .ensures) (c .before .before .before .before .before .before .before .before .before .before .f .given .1)
-    (Laws.on-go _ _ _ (c .before .before .before .before .before .before .before .before .read-field2 .ensures)
-    (c .before .before .before .before .before .before .g .given .1)
-    (Laws.on-stop _ _ _ (cc
-    (c .before .before .before .read-field3 .ensures, c .before .before .before .before .stored-most .ensures))
-    (c .before .enum-told3 .given .1) (rw (c .refused3 .ensures))))
+may-store-requires : tie.Need-may-store-requires
+may-store-requires c κs =
+    Quick.object-few _ _ _ (sym (c .before .names-object .ensures) ∙ c .if2 .taken) (search needs)
 
 entry-place-requires : tie.Need-entry-place-requires
 entry-place-requires c κs = search needs
@@ -93,46 +51,46 @@ add-entries-2 c = search needs
 element-write-entries-3 : tie.Need-element-write-entries-3
 element-write-entries-3 c = search needs
 
-returns-4 : tie.Need-returns-4
-unfolding entry stop read setEntry
-returns-4 c =
-    λ count. Laws.on-go _ _ _
-    (c .before .before .before .before .before .before .before .before .before .before .before .before .before
-    .read-field .ensures)
-    (c .before .before .before .before .before .before .before .before .before .before .before .f .given .1)
-    (Laws.on-go _ _ _
-    (c .before .before .before .before .before .before .before .before .before .read-field2 .ensures)
-    (c .before .before .before .before .before .before .before .g .given .1)
-    (Laws.on-go _ _ _ (cc (
-      c .before .before .before .before .read-field3 .ensures,
-      c .before .before .before .before .before .stored-most .ensures,
-    )) (c .before .before .h .given .1)
-    (rw (c .entry-place .ensures))))
+add-t23 : tie.Need-add-t23
+add-t23 c = search needs
+
+returns : tie.Need-returns
+unfolding read setEntry
+returns c =
+    λ count. rw (c .entry-place .ensures) (Quick.entry-quick _ _ _ _ _ _ _ _ _ _
+    (omega (
+      arith,
+      c .before .before .before .before .before .before .before .before .before .reach .ensures,
+      c .before .before .before .before .before .before .before .before .if1 .taken,
+    )) refl refl refl
+    (sym (c .before .before .before .before .names-object .ensures) ∙ c .before .before .before .if2 .taken)
+    (sym (c .before .before .may-store .ensures) ∙ c .before .if3 .taken) (search needs))
+
+entry-by-fields-requires : tie.Need-entry-by-fields-requires
+entry-by-fields-requires c κs = search needs
+
+returns-2 : tie.Need-returns-2
+returns-2 c = search needs
 
 pub read-entry-spec : {M : Type 1} → statement M
 read-entry-spec =
     tie.close
     (tie.spec
-    read-field-requires
-    enum-known-f
-    enum-told
-    refused-requires
-    returns
-    read-field-requires-2
-    enum-known-g
-    enum-told-2
-    refused-requires-2
-    returns-2
-    stored-most-requires
-    read-field-requires-3
-    enum-known-h
-    enum-told-3
-    refused-requires-3
-    returns-3
+    reach-requires
+    shared-slice-read-o
+    add-mode
+    shared-slice-read-mode
+    add-w
+    shared-slice-read-w
+    names-object-requires
+    may-store-requires
     entry-place-requires
     element-write-entries
     add-entries
     element-write-entries-2
     add-entries-2
     element-write-entries-3
-    returns-4)
+    add-t23
+    returns
+    entry-by-fields-requires
+    returns-2)
