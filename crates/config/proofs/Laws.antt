@@ -5,7 +5,7 @@ use mathlib.Core.Path.{_≡_, refl, sym, _∙_, subst}
 use mathlib.Core.List.{List}
 use mathlib.Core.Bool.{Bool, true, false, cond, false≢true, _&&_}
 use lib.ListN.{length}
-use lib.Dec.{leb}
+use lib.Dec.{leb, eqb}
 use borrow.Author.Tests.{le-leb, lt-leb, leb-true, eq-eqb, ne-eqb}
 use native.Mathlib.Omega.{arith}
 use Rattle.model.specs.Number.{numberAt}
@@ -48,7 +48,7 @@ use Rattle.model.specs.declared.Counts.{Counts}
 use Rattle.model.specs.declared.Config.{Config}
 use Rattle.model.specs.declared.Loaded.{Loaded}
 use Rattle.config.specs.Columns.{progress, Within}
-use Rattle.config.specs.Sound.{firstNo}
+use Rattle.config.specs.Sound.{firstNo, restNo}
 
 and-false : (b : Bool) → b && false ≡ false
 and-false true = refl
@@ -181,26 +181,34 @@ module _ (s : List ℕ) {h : Head} (e : h ≡ countsAt s) where
 
 -- questions 4, 5 and 6, by the first that is answered with no
 module _ (s : List ℕ) (at : ℕ) (config : Config) where
-  pub left-over : {r : Loaded} → (at ≡ length s → ⊥) → r ≡ refused 4 → r ≡ judged s at config
-  unfolding judged ask
-  left-over h p = rw (p, ne-eqb at (length s) h)
+  pub left-over : (at ≡ length s → ⊥) → 4 ≡ restNo s at config
+  unfolding restNo
+  left-over h = rw (ne-eqb at (length s) h)
 
-  module _ {a b : Bool} {q : ℕ} (h : at ≡ length s) (e : a ≡ paired config) (g : b ≡ restrained config)
-      (f : q ≡ firstNo a 5 b 6) where
+  pub all-read : {a b : Bool} {q : ℕ} → at ≡ length s → a ≡ paired config → b ≡ restrained config
+      → q ≡ firstNo a 5 b 6 → q ≡ restNo s at config
+  unfolding restNo
+  all-read h e g f = rw (eq-eqb at (length s) h, ← e, ← g, f)
+
+  module _ {q : ℕ} (h : q ≡ restNo s at config) where
     pub not-sound : {r : Loaded} → (q ≡ 0 → ⊥) → r ≡ refused q → r ≡ judged s at config
-    unfolding judged ask firstNo
-    not-sound n p = rw (p, eq-eqb at (length s) h, ← e, ← g) (go a b f)
+    unfolding judged ask restNo firstNo
+    not-sound n p = rw p (go (eqb at (length s)) (paired config) (restrained config) h)
       where
-        go : (a b : Bool) → q ≡ firstNo a 5 b 6 → refused q ≡ ask 5 a (ask 6 b (accepted config))
-        go true true z = absurd (n z)
-        go true false z = rw z
-        go false b z = rw z
+        go : (a b c : Bool) → q ≡ cond a (firstNo b 5 c 6) 4
+            → refused q ≡ ask 4 a (ask 5 b (ask 6 c (accepted config)))
+        go false b c z = rw z
+        go true false c z = rw z
+        go true true false z = rw z
+        go true true true z = absurd (n z)
 
-    pub accepts : q ≡ 0 → accepted config ≡ judged s at config
-    unfolding judged ask firstNo
-    accepts n = rw (eq-eqb at (length s) h, ← e, ← g) (go a b f)
+    pub accepts : {r : Loaded} → q ≡ 0 → r ≡ accepted config → r ≡ judged s at config
+    unfolding judged ask restNo firstNo
+    accepts n p = rw p (go (eqb at (length s)) (paired config) (restrained config) h)
       where
-        go : (a b : Bool) → q ≡ firstNo a 5 b 6 → accepted config ≡ ask 5 a (ask 6 b (accepted config))
-        go true true z = refl
-        go true false z = absurd (omega arith)
-        go false b z = absurd (omega arith)
+        go : (a b c : Bool) → q ≡ cond a (firstNo b 5 c 6) 4
+            → accepted config ≡ ask 4 a (ask 5 b (ask 6 c (accepted config)))
+        go true true true z = refl
+        go true true false z = absurd (omega arith)
+        go true false c z = absurd (omega arith)
+        go false b c z = absurd (omega arith)

@@ -25,6 +25,7 @@ use Rattle.model.specs.Config.{
   entries,
 }
 use Rattle.model.specs.ConfigFile.{howMany, paired, ownEntry, restrained}
+use Rattle.model.specs.declared.Counts.{Counts}
 use Rattle.model.specs.declared.Config.{Config}
 use Rattle.config.specs.Sound.{
   upTo,
@@ -33,6 +34,7 @@ use Rattle.config.specs.Sound.{
   markOf,
   hasOne,
   deviceOwned,
+  pairedBy,
   mayName,
   entryPasses,
   allFrom,
@@ -159,26 +161,23 @@ module _ (config : Config) where
   unfolding hasOne tally
   one-same c = ap (λ (n : ℕ). eqb n 1) (many-same (config .counts .objects) _ _ (marks-same c))
 
-  pub paired-same : upTo (config .counts .devices)
-      (hasOne (config .objects .kind) (config .objects .class) (config .objects .owner) (config .counts .objects))
-      && upTo (config .counts .objects) (deviceOwned (config .objects .kind) (config .objects .class)) ≡ paired config
-  unfolding paired upTo deviceOwned
+  pub paired-same :
+      pairedBy (config .counts) (config .objects .kind) (config .objects .class) (config .objects .owner)
+      ≡ paired config
+  unfolding pairedBy paired upTo deviceOwned
   paired-same = rw (every-same (config .counts .devices) _ _ (λ c low high. one-same c))
 
 -- both parts of it, as they are asked
-module _ (config : Config) where
-  abbrev Ones : Bool
-  Ones =
-      upTo (config .counts .devices)
-      (hasOne (config .objects .kind) (config .objects .class) (config .objects .owner) (config .counts .objects))
+module _ (counts : Counts) (kind class owner : List ℕ) where
+  pub paired-no : (a : Bool) → a ≡ upTo (counts .devices) (hasOne kind class owner (counts .objects)) → a ≡ false
+      → false ≡ pairedBy counts kind class owner
+  unfolding pairedBy
+  paired-no a e z = rw (← e, z)
 
-  pub paired-no : (a : Bool) → a ≡ Ones → a ≡ false → false ≡ paired config
-  paired-no a e z = rw (← paired-same config, ← e, z)
-
-  pub paired-rest : (a r : Bool) → a ≡ Ones → a ≡ true
-      → r ≡ upTo (config .counts .objects) (deviceOwned (config .objects .kind) (config .objects .class))
-      → r ≡ paired config
-  paired-rest a r e z p = rw (← paired-same config, ← e, z, p)
+  pub paired-rest : (a r : Bool) → a ≡ upTo (counts .devices) (hasOne kind class owner (counts .objects)) → a ≡ true
+      → r ≡ upTo (counts .objects) (deviceOwned kind class) → r ≡ pairedBy counts kind class owner
+  unfolding pairedBy
+  paired-rest a r e z p = rw (← e, z, p)
 
 -- the entries of a value: value 0 has none
 module _ (p : Entry → Bool) (count table : List ℕ) where
@@ -206,8 +205,6 @@ module _ (config : Config) where
   passes-same c zero = refl
   passes-same c (suc v) = refl
 
-  pub restrained-same : upTo (config .counts .devices)
-      (deviceRestrained (config .counts .objects) (config .objects) (config .devices) (config .values))
-      ≡ restrained config
+  pub restrained-same : upTo (config .counts .devices) (deviceRestrained config) ≡ restrained config
   unfolding restrained upTo deviceRestrained
   restrained-same = every-same (config .counts .devices) _ _ (λ c low high. passes-same c (hardcodedOf config c))

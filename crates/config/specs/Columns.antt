@@ -8,6 +8,7 @@ use Rattle.model.specs.declared.Counts.{Counts}
 use Rattle.model.specs.declared.Objects.{Objects}
 use Rattle.model.specs.declared.Devices.{Devices}
 use Rattle.model.specs.declared.Values.{Values}
+use Rattle.model.specs.declared.Config.{Config}
 
 abbrev pub objectsOf : List ℕ → List ℕ → List ℕ → Objects
 objectsOf kind class owner = record { kind = kind; class = class; owner = owner }
@@ -17,6 +18,15 @@ devicesOf hardcoded = record { hardcoded = hardcoded }
 
 abbrev pub valuesOf : List ℕ → List ℕ → Values
 valuesOf count entries = record { count = count; entries = entries }
+
+abbrev pub configOf : Counts → List ℕ → List ℕ → List ℕ → List ℕ → List ℕ → List ℕ → Config
+configOf counts kind class owner hardcoded count entries =
+    record {
+      counts = counts;
+      objects = objectsOf kind class owner;
+      devices = devicesOf hardcoded;
+      values = valuesOf count entries;
+    }
 
 -- what a reader answers, and what the columns then hold
 abbrev pub progress : {T : Type 0} → Reading → T → Progress T

@@ -2,14 +2,13 @@
 use Prim.Native.Nat.{ℕ, zero, suc}
 use mathlib.Core.List.{List}
 use mathlib.Core.Bool.{Bool, true, false, not, cond, _&&_, _||_}
-use lib.ListN.{getD}
+use lib.ListN.{getD, length}
 use lib.Dec.{eqb}
 use Rattle.model.specs.Base.{all, every}
 use Rattle.model.specs.Config.{from1to, entryPlace, Entry, entriesFrom}
-use Rattle.model.specs.ConfigFile.{howMany}
-use Rattle.model.specs.declared.Objects.{Objects}
-use Rattle.model.specs.declared.Devices.{Devices}
-use Rattle.model.specs.declared.Values.{Values}
+use Rattle.model.specs.ConfigFile.{howMany, paired, restrained}
+use Rattle.model.specs.declared.Counts.{Counts}
+use Rattle.model.specs.declared.Config.{Config}
 
 -- places up to here are far below the largest number of a machine word
 abbrev pub farPlace : ℕ
@@ -38,6 +37,12 @@ hasOne kind class owner n c = eqb (tally n (marks kind class owner c)) 1
 unfoldable pub deviceOwned : List ℕ → List ℕ → ℕ → Bool
 deviceOwned kind class n = not (eqb (getD kind n 0) 4) || eqb (getD class n 0) 2
 
+-- question 5, with these counts
+unfoldable pub pairedBy : Counts → List ℕ → List ℕ → List ℕ → Bool
+pairedBy counts kind class owner =
+    upTo (counts .devices) (hasOne kind class owner (counts .objects))
+    && upTo (counts .objects) (deviceOwned kind class)
+
 -- the hardcoded value of device c may name object o by this mode, with n objects
 unfoldable pub mayName : List ℕ → List ℕ → List ℕ → ℕ → ℕ → ℕ → ℕ → Bool
 mayName kind class owner n c o mode =
@@ -57,17 +62,21 @@ unfoldable pub valuePasses : (Entry → Bool) → List ℕ → List ℕ → ℕ 
 valuePasses p count table zero = true
 valuePasses p count table (suc v) = allFrom p table (entryPlace (suc v) 1) (getD count (suc v) 0)
 
--- the hardcoded value of device c passes, with n objects
-unfoldable pub deviceRestrained : ℕ → Objects → Devices → Values → ℕ → Bool
-deviceRestrained n objects devices values c =
+-- the hardcoded value of device c passes
+unfoldable pub deviceRestrained : Config → ℕ → Bool
+deviceRestrained config c =
     valuePasses
-    (entryPasses (objects .kind) (objects .class) (objects .owner) n c)
-    (values .count)
-    (values .entries)
-    (getD (devices .hardcoded) c 0)
+    (entryPasses (config .objects .kind) (config .objects .class) (config .objects .owner) (config .counts .objects) c)
+    (config .values .count)
+    (config .values .entries)
+    (getD (config .devices .hardcoded) c 0)
 
 -- the number of the first of two questions that is answered with no, or 0
 unfoldable pub firstNo : Bool → ℕ → Bool → ℕ → ℕ
 firstNo false p b q = p
 firstNo true p true q = 0
 firstNo true p false q = q
+
+-- the number of the first question among 4, 5 and 6 that a file read up to `at` answers with no, or 0
+unfoldable pub restNo : List ℕ → ℕ → Config → ℕ
+restNo s at config = cond (eqb at (length s)) (firstNo (paired config) 5 (restrained config) 6) 4

@@ -7,9 +7,9 @@ mod values;
 
 ghost use mathlib.Core.Path.{_≡_};
 ghost use Rattle.model.specs.Config.{blank};
-ghost use Rattle.model.specs.ConfigFile.{refused, judged, groupsFrom, load};
-ghost use Rattle.config.specs.Columns.{Within};
-ghost use Rattle.config.specs.Sound.{firstNo};
+ghost use Rattle.model.specs.ConfigFile.{refused, accepted, load};
+ghost use Rattle.config.specs.Columns.{configOf, Within};
+ghost use Rattle.config.specs.Sound.{firstNo, restNo};
 use model::Config;
 use model::Counts;
 use model::DEVICE_SLOTS;
@@ -73,49 +73,43 @@ fn first_no(a: bool, p: u8, b: bool, q: u8) -> u8
     if b { 0 } else { q }
 }
 
-// Questions 4, 5 and 6 of a file that was read up to `at`.
-fn judge(s: &[u8], at: usize, config: Config) -> Loaded
-    requires { ⌜ Within (config .counts) ⌝ }
-    ensures { λ r. ⌜ r ≡ judged (now (s .entry)) at config ⌝ }
+// The number of the first question among 4, 5 and 6 that a file read up to `at` answers with no, or 0.
+fn judge<'a>(
+    s: &[u8],
+    at: usize,
+    counts: Counts,
+    kind: &'a [u8; OBJECT_SLOTS],
+    class: &'a [u8; OBJECT_SLOTS],
+    owner: &'a [u8; OBJECT_SLOTS],
+    hardcoded: &'a [u8; DEVICE_SLOTS],
+    count: &'a [u8; VALUE_SLOTS],
+    entries: &'a [u8; ENTRY_SLOTS],
+) -> u8
+    requires { ⌜ Within counts ⌝ }
+    ensures { λ r.
+        ⌜ r ≡ restNo (now (s .entry)) at
+        (configOf counts (now (kind .entry)) (now (class .entry)) (now (owner .entry))
+        (now (hardcoded .entry)) (now (count .entry)) (now (entries .entry))) ⌝ }
 {
     if at != s.len() {
-        return refuse(4);
+        return 4;
     }
-    let paired = sound::is_paired(config);
-    let restrained = sound::is_restrained(config);
-    let q = first_no(paired, 5, restrained, 6);
-    if q != 0 {
-        return refuse(q);
-    }
-    Loaded {
-        answer: 0,
-        config: config,
-    }
+    let paired = sound::is_paired(counts, kind, class, owner);
+    let restrained = sound::is_restrained(counts, kind, class, owner, hardcoded, count, entries);
+    first_no(paired, 5, restrained, 6)
 }
 
-// What follows the counts: objects, devices, values; then questions 4, 5 and 6.
-fn read_groups(s: &[u8], counts: Counts, at: usize) -> Loaded
-    requires { ⌜ Within counts ⌝ }
-    ensures { λ r. ⌜ r ≡ groupsFrom (now (s .entry)) counts at ⌝ }
+fn accept(
+    counts: Counts,
+    kind: [u8; OBJECT_SLOTS],
+    class: [u8; OBJECT_SLOTS],
+    owner: [u8; OBJECT_SLOTS],
+    hardcoded: [u8; DEVICE_SLOTS],
+    count: [u8; VALUE_SLOTS],
+    entries: [u8; ENTRY_SLOTS],
+) -> Loaded
+    ensures { λ r. ⌜ r ≡ accepted (configOf counts kind class owner hardcoded count entries) ⌝ }
 {
-    let mut kind = [0u8; OBJECT_SLOTS];
-    let mut class = [0u8; OBJECT_SLOTS];
-    let mut owner = [0u8; OBJECT_SLOTS];
-    let p = groups::read_objects(s, counts, at, &mut kind, &mut class, &mut owner);
-    let Reading::At(a) = p else {
-        return refuse(fields::reading_question(p));
-    };
-    let mut hardcoded = [0u8; DEVICE_SLOTS];
-    let q = groups::read_devices(s, counts, a, &mut hardcoded);
-    let Reading::At(b) = q else {
-        return refuse(fields::reading_question(q));
-    };
-    let mut count = [0u8; VALUE_SLOTS];
-    let mut entries = [0u8; ENTRY_SLOTS];
-    let r = values::read_values(s, counts, &kind, b, &mut count, &mut entries);
-    let Reading::At(end) = r else {
-        return refuse(fields::reading_question(r));
-    };
     let objects = Objects {
         kind: kind,
         class: class,
@@ -128,19 +122,19 @@ fn read_groups(s: &[u8], counts: Counts, at: usize) -> Loaded
         count: count,
         entries: entries,
     };
-    judge(
-        s,
-        end,
-        Config {
+    Loaded {
+        answer: 0,
+        config: Config {
             counts: counts,
             objects: objects,
             devices: devices,
             values: values,
         },
-    )
+    }
 }
 
 // The configuration of a file, with answer 0; or the first question that is answered with no, beside a blank one.
+// The struct is made here, in one place, so that each column is copied once.
 pub fn load(file: &[u8]) -> Loaded
     ensures { λ r. ⌜ r ≡ load (now (file .entry)) ⌝ }
 {
@@ -148,5 +142,37 @@ pub fn load(file: &[u8]) -> Loaded
     let Head::Counted(counts, at) = head else {
         return refuse(fields::head_question(head));
     };
-    read_groups(file, counts, at)
+    let mut kind = [0u8; OBJECT_SLOTS];
+    let mut class = [0u8; OBJECT_SLOTS];
+    let mut owner = [0u8; OBJECT_SLOTS];
+    let p = groups::read_objects(file, counts, at, &mut kind, &mut class, &mut owner);
+    let Reading::At(a) = p else {
+        return refuse(fields::reading_question(p));
+    };
+    let mut hardcoded = [0u8; DEVICE_SLOTS];
+    let q = groups::read_devices(file, counts, a, &mut hardcoded);
+    let Reading::At(b) = q else {
+        return refuse(fields::reading_question(q));
+    };
+    let mut count = [0u8; VALUE_SLOTS];
+    let mut entries = [0u8; ENTRY_SLOTS];
+    let r = values::read_values(file, counts, &kind, b, &mut count, &mut entries);
+    let Reading::At(end) = r else {
+        return refuse(fields::reading_question(r));
+    };
+    let no = judge(
+        file,
+        end,
+        counts,
+        &kind,
+        &class,
+        &owner,
+        &hardcoded,
+        &count,
+        &entries,
+    );
+    if no != 0 {
+        return refuse(no);
+    }
+    accept(counts, kind, class, owner, hardcoded, count, entries)
 }

@@ -5,18 +5,20 @@ ghost use Prim.Native.Nat.{_+_, _*_, _≤_};
 ghost use lib.Dec.{eqb};
 ghost use lib.ListN.{getD};
 ghost use Rattle.model.specs.Config.{mostObjects, entryBytes, entryAt};
-ghost use Rattle.model.specs.ConfigFile.{paired, restrained};
-ghost use Rattle.config.specs.Columns.{Within};
+ghost use Rattle.model.specs.ConfigFile.{restrained};
+ghost use Rattle.config.specs.Columns.{configOf, Within};
 ghost use Rattle.config.specs.Sound.{farPlace, upTo, tally, marks, markOf, hasOne};
-ghost use Rattle.config.specs.Sound.{deviceOwned, mayName, entryPasses, allFrom, valuePasses};
-use model::Config;
+ghost use Rattle.config.specs.Sound.{deviceOwned, pairedBy, mayName, entryPasses, allFrom, valuePasses};
 use model::Counts;
 use model::DEVICE_CLASS;
+use model::DEVICE_SLOTS;
 use model::ENTRY_BYTES;
+use model::ENTRY_SLOTS;
 use model::HARDCODED_KIND;
 use model::OBJECT_SLOTS;
 use model::READ_MODE;
 use model::TRANSFER_KIND;
+use model::VALUE_SLOTS;
 use model::entry_place;
 
 // What a column has at place i, and 0 past its end.
@@ -102,16 +104,19 @@ fn all_device_owned<'a>(kind: &'a [u8; OBJECT_SLOTS], class: &'a [u8; OBJECT_SLO
 }
 
 // Question 5.
-pub fn is_paired(config: Config) -> bool
-    requires { ⌜ Within (config .counts) ⌝ }
-    ensures { λ r. ⌜ r ≡ paired config ⌝ }
+pub fn is_paired<'a>(
+    counts: Counts,
+    kind: &'a [u8; OBJECT_SLOTS],
+    class: &'a [u8; OBJECT_SLOTS],
+    owner: &'a [u8; OBJECT_SLOTS],
+) -> bool
+    requires { ⌜ Within counts ⌝ }
+    ensures { λ r. ⌜ r ≡ pairedBy counts (now (kind .entry)) (now (class .entry)) (now (owner .entry)) ⌝ }
 {
-    let counts = config.counts;
-    let t = config.objects;
-    if !each_has_one(counts, &t.kind, &t.class, &t.owner) {
+    if !each_has_one(counts, kind, class, owner) {
         return false;
     }
-    all_device_owned(&t.kind, &t.class, counts.objects)
+    all_device_owned(kind, class, counts.objects)
 }
 
 // The hardcoded value of device v may name object o by this mode.
@@ -206,20 +211,27 @@ fn value_passes<'a>(
 }
 
 // Question 6.
-pub fn is_restrained(config: Config) -> bool
-    ensures { λ r. ⌜ r ≡ restrained config ⌝ }
+pub fn is_restrained<'a>(
+    counts: Counts,
+    kind: &'a [u8; OBJECT_SLOTS],
+    class: &'a [u8; OBJECT_SLOTS],
+    owner: &'a [u8; OBJECT_SLOTS],
+    hardcoded: &'a [u8; DEVICE_SLOTS],
+    count: &'a [u8; VALUE_SLOTS],
+    entries: &'a [u8; ENTRY_SLOTS],
+) -> bool
+    requires { ⌜ Within counts ⌝ }
+    ensures { λ r.
+        ⌜ r ≡ restrained (configOf counts (now (kind .entry)) (now (class .entry)) (now (owner .entry))
+        (now (hardcoded .entry)) (now (count .entry)) (now (entries .entry))) ⌝ }
 {
-    let n = config.counts.objects;
-    let last = config.counts.devices;
-    let t = config.objects;
-    let d = config.devices;
-    let f = config.values;
+    let last = counts.devices;
     let mut i: u8 = 0;
     while i < last {
         i += 1;
         let at = i as usize;
-        let w = look(&d.hardcoded, at);
-        if !value_passes(&t.kind, &t.class, &t.owner, &f.count, &f.entries, n, i, w) {
+        let w = hardcoded[at];
+        if !value_passes(kind, class, owner, count, entries, counts.objects, i, w) {
             return false;
         }
     }

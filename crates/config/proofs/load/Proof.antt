@@ -1,5 +1,7 @@
--- `config::load` meets its contract: the counts go on or are refused. Assumes nothing.
+-- `config::load` meets its contract: each group that goes on is a `group-go`, the one that is refused a `group-stop`;
+-- then the first no among questions 4 to 6 decides. Assumes nothing.
 use borrow.Author.Needs.{needs}
+use Rattle.model.specs.ConfigFile.{groupsFrom, objectsAt, devicesAt, valuesAt}
 use Rattle.config.proofs.Laws
 use Rattle.config.proofs.load.Statement.{statement}
 use Rattle.config.proofs.load.Tie as tie
@@ -24,14 +26,156 @@ returns c =
     Laws.load-stop _ (c .before .before .before .before .read-counts .ensures)
     (c .before .before .enum-told .given .1) (rw (← c .before .head-question .ensures) (c .refuse .ensures))
 
-read-groups-requires : tie.Need-read-groups-requires
-read-groups-requires c κs =
-    Laws.counts-within _ (c .before .before .before .read-counts .ensures) (c .before .head .given .1)
+read-objects-requires : tie.Need-read-objects-requires
+read-objects-requires c κs =
+    Laws.counts-within _ (c .before .before .before .before .before .before .read-counts .ensures) (c .before
+    .before .before .before .head .given .1)
+
+enum-known-p : tie.Need-enum-known-p
+enum-known-p c = search needs
+
+enum-told-2 : tie.Need-enum-told-2
+enum-told-2 c = search needs
+
+reading-question-requires : tie.Need-reading-question-requires
+reading-question-requires c κs = search needs
+
+refuse-requires-2 : tie.Need-refuse-requires-2
+refuse-requires-2 c κs = search needs
 
 returns-2 : tie.Need-returns-2
+unfolding groupsFrom objectsAt devicesAt valuesAt
 returns-2 c =
-    Laws.load-go _ (c .before .before .before .before .read-counts .ensures) (c .before .before .head .given .1)
-    (c .read-groups .ensures)
+    Laws.load-go _ (c .before .before .before .before .before .before .before .before .before .before .before
+    .read-counts .ensures) (c .before .before .before .before .before .before .before .before .before .head .given
+    .1)
+    (Laws.group-stop _ _ (c .before .before .before .before .read-objects .ensures) (c .before .before .enum-told2
+    .given .1)
+    (rw (← c .before .reading-question .ensures) (c .refuse2 .ensures)))
+
+read-devices-requires : tie.Need-read-devices-requires
+read-devices-requires c κs =
+    Laws.counts-within _ (c .before .before .before .before .before .before .before .before .before .before
+    .before .read-counts .ensures) (c .before .before .before .before .before .before .before .before .before
+    .head .given .1)
+
+enum-known-q : tie.Need-enum-known-q
+enum-known-q c = search needs
+
+enum-told-3 : tie.Need-enum-told-3
+enum-told-3 c = search needs
+
+reading-question-requires-2 : tie.Need-reading-question-requires-2
+reading-question-requires-2 c κs = search needs
+
+refuse-requires-3 : tie.Need-refuse-requires-3
+refuse-requires-3 c κs = search needs
+
+returns-3 : tie.Need-returns-3
+unfolding groupsFrom objectsAt devicesAt valuesAt
+returns-3 c =
+    Laws.load-go _ (c .before .before .before .before .before .before .before .before .before .before .before
+    .before .before .before .before .before .read-counts .ensures) (c .before .before .before .before .before
+    .before .before .before .before .before .before .before .before .before .head .given .1)
+    (Laws.group-go _ _ (c .before .before .before .before .before .before .before .before .before .read-objects
+    .ensures) (c .before .before .before .before .before .before .before .p .given .1)
+    (Laws.group-stop _ _ (c .before .before .before .before .read-devices .ensures) (c .before .before .enum-told3
+    .given .1)
+    (rw (← c .before .reading-question2 .ensures) (c .refuse3 .ensures))))
+
+read-values-requires : tie.Need-read-values-requires
+read-values-requires c κs =
+    Laws.counts-within _ (c .before .before .before .before .before .before .before .before .before .before
+    .before .before .before .before .before .before .before .before .read-counts .ensures) (c .before .before
+    .before .before .before .before .before .before .before .before .before .before .before .before .before
+    .before .head .given .1)
+
+enum-known-r : tie.Need-enum-known-r
+enum-known-r c = search needs
+
+enum-told-4 : tie.Need-enum-told-4
+enum-told-4 c = search needs
+
+reading-question-requires-3 : tie.Need-reading-question-requires-3
+reading-question-requires-3 c κs = search needs
+
+refuse-requires-4 : tie.Need-refuse-requires-4
+refuse-requires-4 c κs = search needs
+
+returns-4 : tie.Need-returns-4
+unfolding groupsFrom objectsAt devicesAt valuesAt
+returns-4 c =
+    Laws.load-go _ (c .before .before .before .before .before .before .before .before .before .before .before
+    .before .before .before .before .before .before .before .before .before .before .before .before .read-counts
+    .ensures) (c .before .before .before .before .before .before .before .before .before .before .before .before
+    .before .before .before .before .before .before .before .before .before .head .given .1)
+    (Laws.group-go _ _ (c .before .before .before .before .before .before .before .before .before .before .before
+    .before .before .before .before .before .read-objects .ensures) (c .before .before .before .before .before
+    .before .before .before .before .before .before .before .before .before .p .given .1)
+    (Laws.group-go _ _ (c .before .before .before .before .before .before .before .before .before .before .before
+    .read-devices .ensures) (c .before .before .before .before .before .before .before .before .before .q .given
+    .1)
+    (Laws.group-stop _ _ (c .before .before .before .before .read-values .ensures) (c .before .before .enum-told4
+    .given .1)
+    (rw (← c .before .reading-question3 .ensures) (c .refuse4 .ensures)))))
+
+judge-requires : tie.Need-judge-requires
+judge-requires c κs =
+    Laws.counts-within _ (c .before .before .before .before .before .before .before .before .before .before
+    .before .before .before .before .before .before .before .before .before .before .before .before .before
+    .before .before .before .before .before .read-counts .ensures) (c .before .before .before .before .before
+    .before .before .before .before .before .before .before .before .before .before .before .before .before
+    .before .before .before .before .before .before .before .before .head .given .1)
+
+refuse-requires-5 : tie.Need-refuse-requires-5
+refuse-requires-5 c κs = search needs
+
+returns-5 : tie.Need-returns-5
+unfolding groupsFrom objectsAt devicesAt valuesAt
+returns-5 c =
+    Laws.load-go _ (c .before .before .before .before .before .before .before .before .before .before .before
+    .before .before .before .before .before .before .before .before .before .before .before .before .before
+    .before .before .before .before .before .before .before .read-counts .ensures) (c .before .before .before
+    .before .before .before .before .before .before .before .before .before .before .before .before .before
+    .before .before .before .before .before .before .before .before .before .before .before .before .before .head
+    .given .1)
+    (Laws.group-go _ _ (c .before .before .before .before .before .before .before .before .before .before .before
+    .before .before .before .before .before .before .before .before .before .before .before .before .before
+    .read-objects .ensures) (c .before .before .before .before .before .before .before .before .before .before
+    .before .before .before .before .before .before .before .before .before .before .before .before .p .given .1)
+    (Laws.group-go _ _ (c .before .before .before .before .before .before .before .before .before .before .before
+    .before .before .before .before .before .before .before .before .read-devices .ensures) (c .before .before
+    .before .before .before .before .before .before .before .before .before .before .before .before .before
+    .before .before .q .given .1)
+    (Laws.group-go _ _ (c .before .before .before .before .before .before .before .before .before .before .before
+    .before .read-values .ensures) (c .before .before .before .before .before .before .before .before .before
+    .before .r .given .1)
+    (Laws.not-sound _ _ _ (c .before .before .judge .ensures) (c .before .if1 .taken) (c .refuse5 .ensures)))))
+
+accept-requires : tie.Need-accept-requires
+accept-requires c κs = search needs
+
+returns-6 : tie.Need-returns-6
+unfolding groupsFrom objectsAt devicesAt valuesAt
+returns-6 c =
+    Laws.load-go _ (c .before .before .before .before .before .before .before .before .before .before .before
+    .before .before .before .before .before .before .before .before .before .before .before .before .before
+    .before .before .before .before .before .before .before .read-counts .ensures) (c .before .before .before
+    .before .before .before .before .before .before .before .before .before .before .before .before .before
+    .before .before .before .before .before .before .before .before .before .before .before .before .before .head
+    .given .1)
+    (Laws.group-go _ _ (c .before .before .before .before .before .before .before .before .before .before .before
+    .before .before .before .before .before .before .before .before .before .before .before .before .before
+    .read-objects .ensures) (c .before .before .before .before .before .before .before .before .before .before
+    .before .before .before .before .before .before .before .before .before .before .before .before .p .given .1)
+    (Laws.group-go _ _ (c .before .before .before .before .before .before .before .before .before .before .before
+    .before .before .before .before .before .before .before .before .read-devices .ensures) (c .before .before
+    .before .before .before .before .before .before .before .before .before .before .before .before .before
+    .before .before .q .given .1)
+    (Laws.group-go _ _ (c .before .before .before .before .before .before .before .before .before .before .before
+    .before .read-values .ensures) (c .before .before .before .before .before .before .before .before .before
+    .before .r .given .1)
+    (Laws.accepts _ _ _ (c .before .before .judge .ensures) (c .before .if1 .left) (c .accept .ensures)))))
 
 pub load-spec : {M : Type 1} → statement M
 load-spec =
@@ -43,5 +187,26 @@ load-spec =
     head-question-requires
     refuse-requires
     returns
-    read-groups-requires
-    returns-2)
+    read-objects-requires
+    enum-known-p
+    enum-told-2
+    reading-question-requires
+    refuse-requires-2
+    returns-2
+    read-devices-requires
+    enum-known-q
+    enum-told-3
+    reading-question-requires-2
+    refuse-requires-3
+    returns-3
+    read-values-requires
+    enum-known-r
+    enum-told-4
+    reading-question-requires-3
+    refuse-requires-4
+    returns-4
+    judge-requires
+    refuse-requires-5
+    returns-5
+    accept-requires
+    returns-6)

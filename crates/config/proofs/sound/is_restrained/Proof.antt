@@ -4,16 +4,18 @@ use Prim.Native.Nat.{_≤_, _-_}
 use borrow.Author.Tests.{not-true, not-false}
 use mathlib.Core.Bool.{true}
 use mathlib.Core.Path.{_≡_, sym, _∙_}
+use Rattle.config.specs.Columns.{configOf}
 use Rattle.config.specs.Sound.{upTo, deviceRestrained}
 use Rattle.config.proofs.Questions
 use Rattle.config.proofs.sound.is_restrained.Statement.{statement}
 use Rattle.config.proofs.sound.is_restrained.Tie as tie
 
 abbrev Inv-loop : tie.InvT-loop
-Inv-loop n last t d f i₀ i = (i ≤ last) × (upTo i (deviceRestrained n t d f) ≡ true)
+Inv-loop counts kind class owner hardcoded count entries last i₀ i =
+    (i ≤ last) × (upTo i (deviceRestrained (configOf counts kind class owner hardcoded count entries)) ≡ true)
 
 abbrev μ-loop : tie.MeasureT-loop
-μ-loop n last t d f i₀ i = last - i
+μ-loop counts kind class owner hardcoded count entries last i₀ i = last - i
 
 loop-holds : tie.Need-loop-holds Inv-loop μ-loop
 loop-holds c = (search needs, Questions.up-start _)
@@ -24,8 +26,8 @@ add-i c = search needs
 cast-at : tie.Need-cast-at Inv-loop μ-loop
 cast-at c = search needs
 
-look-requires : tie.Need-look-requires Inv-loop μ-loop
-look-requires c κs = search needs
+element-copy-out-w : tie.Need-element-copy-out-w Inv-loop μ-loop
+element-copy-out-w c = search needs
 
 value-passes-requires : tie.Need-value-passes-requires Inv-loop μ-loop
 value-passes-requires c κs = search needs
@@ -33,13 +35,8 @@ value-passes-requires c κs = search needs
 returns : tie.Need-returns Inv-loop μ-loop
 unfolding deviceRestrained
 returns c =
-    Questions.up-stop _ _ _
-    (c .before .before .before .before .before .before .before .before .before .before .before .before .before .before
-    .before .before .before .before .loop-test .taken)
-    (rw
-    (← c .before .before .before .before .before .before .before .before .before .before .before .before .before
-    .before .look .ensures)
-    (sym (c .before .value-passes .ensures) ∙ not-true (c .before .value-passes .result) (c .if1 .taken)))
+    Questions.up-stop _ _ _ (c .before .before .before .before .before .before .before .before .loop-test .taken)
+    (sym (c .before .value-passes .ensures) ∙ not-true (c .before .value-passes .result) (c .if1 .taken))
     ∙ Questions.restrained-same _
 
 loop-less : tie.Need-loop-less Inv-loop μ-loop
@@ -49,13 +46,8 @@ loop-again : tie.Need-loop-again Inv-loop μ-loop
 unfolding deviceRestrained
 loop-again c = (
   search needs,
-  Questions.up-go _ _
-      (c .before .before .before .before .before .before .before .before .before .before .before .before .before .before
-      .before .before .before .before .before .loop .inv .1)
-      (rw
-      (← c .before .before .before .before .before .before .before .before .before .before .before .before .before
-      .before .look .ensures)
-      (sym (c .before .value-passes .ensures) ∙ not-false (c .before .value-passes .result) (c .if1 .left))),
+  Questions.up-go _ _ (c .before .before .before .before .before .before .before .before .before .loop .inv .1)
+      (sym (c .before .value-passes .ensures) ∙ not-false (c .before .value-passes .result) (c .if1 .left)),
 )
 
 returns-2 : tie.Need-returns-2 Inv-loop μ-loop
@@ -72,7 +64,7 @@ is-restrained-spec =
     loop-holds
     add-i
     cast-at
-    look-requires
+    element-copy-out-w
     value-passes-requires
     returns
     loop-less
