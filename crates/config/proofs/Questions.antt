@@ -1,17 +1,28 @@
 -- Laws of the loops that put questions 5 and 6, and that the columns' questions are the model's.
 -- Assumes nothing.
 use Prim.Native.Nat.{ℕ, zero, suc, _+_, _-_, _≤_, _<_}
-use mathlib.Core.Path.{_≡_, refl, sym, ap}
-use mathlib.Core.List.{List}
+use mathlib.Core.Path.{_≡_, refl, sym, ap, _∙_}
+use mathlib.Core.List.{List, [], _∷_}
 use mathlib.Core.Bool.{Bool, true, false, cond, _&&_}
 use native.Mathlib.Omega.{arith}
 use native.Mathlib.Decide.{ℕ-discrete}
 use native.Mathlib.Numerals.{add-one}
-use lib.ListN.{getD}
-use lib.Dec.{eqb}
-use borrow.Author.Tests.{le-leb}
+use lib.ListN.{
+  length,
+  getD,
+  set,
+  replicate,
+  length-set,
+  length-replicate,
+  getD-replicate,
+  List·getD-eq-default,
+}
+use lib.Seq.{getD-set-same, getD-set-other}
+use lib.Dec.{eqb, ltb}
+use borrow.Author.Tests.{le-leb, eq-eqb, ne-eqb, ltb-true, ltb-false}
 use Rattle.model.specs.Base.{all, every}
 use Rattle.model.specs.Config.{
+  mostObjects,
   entryBytes,
   entryPlace,
   kindOf,
@@ -31,7 +42,8 @@ use Rattle.config.specs.Sound.{
   upTo,
   tally,
   marks,
-  markOf,
+  noted,
+  oneIn,
   hasOne,
   deviceOwned,
   pairedBy,
@@ -87,21 +99,81 @@ module _ (p : ℕ → Bool) where
       go true h = omega arith
       go false h = omega arith
 
-  pub tally-small : (i t : ℕ) → t ≡ tally i p → t ≤ i
-  tally-small i t h = omega (arith, tally-few i)
+-- the table of how many hardcoded descriptors each device has, by one more object
+module _ (owned : List ℕ) (k l w : ℕ) where
+  pub note-other : (k ≡ 4 → ⊥) → owned ≡ noted owned k l w
+  unfolding noted
+  note-other h = rw (ne-eqb k 4 h)
 
-  pub tally-end : (n i t : ℕ) → t ≡ tally i p → i ≤ n → n ≤ i → t ≡ tally n p
-  tally-end n i t h l m =
-      let q : i ≡ n = omega arith in
-      rw q at h
+  pub note-wrong : k ≡ 4 → (l ≡ 2 → ⊥) → owned ≡ noted owned k l w
+  unfolding noted
+  note-wrong h e = rw (eq-eqb k 4 h, ne-eqb l 2 e)
 
-pub mark-few : (kind class owner c m : ℕ) → m ≡ markOf kind class owner c → m ≤ 1
-unfolding markOf
-mark-few kind class owner c m h = go (eqb kind 4 && eqb class 2 && eqb owner c) h
-  where
-    go : (b : Bool) → m ≡ cond b 1 0 → m ≤ 1
-    go true e = omega arith
-    go false e = omega arith
+  set-past : (s : List ℕ) (i a : ℕ) → length s ≤ i → s ≡ set s i a
+  set-past [] i a h = refl
+  set-past (x ∷ s) zero a h = absurd (omega arith)
+  set-past (x ∷ s) (suc i) a h = ap (λ (t : List ℕ). x ∷ t) (set-past s i a (omega arith))
+
+  pub note-past : k ≡ 4 → l ≡ 2 → length owned ≤ w → owned ≡ noted owned k l w
+  unfolding noted
+  note-past h e p = rw (eq-eqb k 4 h, eq-eqb l 2 e) (set-past owned w (getD owned w 0 + 1) p)
+
+  pub note-one : k ≡ 4 → l ≡ 2 → set owned w (getD owned w 0 + 1) ≡ noted owned k l w
+  unfolding noted
+  note-one h e = rw (eq-eqb k 4 h, eq-eqb l 2 e)
+
+  note-length : length (noted owned k l w) ≡ length owned
+  unfolding noted
+  note-length = go (eqb k 4 && eqb l 2)
+    where
+      go : (b : Bool) → length (cond b (set owned w (getD owned w 0 + 1)) owned) ≡ length owned
+      go true = length-set owned w (getD owned w 0 + 1)
+      go false = refl
+
+  pub note-kept : {n : ℕ} {next : List ℕ} → length owned ≡ n → next ≡ noted owned k l w → length next ≡ n
+  note-kept h e = rw e (note-length ∙ h)
+
+  note-get : (c : ℕ) → c < length owned
+      → getD (noted owned k l w) c 0 ≡ getD owned c 0 + cond (eqb k 4 && eqb l 2 && eqb w c) 1 0
+  unfolding noted
+  note-get c h = go (eqb k 4 && eqb l 2) (ℕ-discrete w c)
+    where
+      go : (b : Bool) → Dec (w ≡ c)
+          → getD (cond b (set owned w (getD owned w 0 + 1)) owned) c 0 ≡ getD owned c 0 + cond (b && eqb w c) 1 0
+      go false d = omega arith
+      go true (yes e) = rw (e, eq-eqb c c refl) (getD-set-same owned c (getD owned c 0 + 1) 0 h)
+      go true (no e) =
+          rw (ne-eqb w c e, getD-set-other owned w c (getD owned w 0 + 1) 0 (λ z. e (sym z))) (omega arith)
+
+-- the table counts the objects 1 to i
+module _ (kind class owner : List ℕ) where
+  abbrev pub Counted : ℕ → List ℕ → Type 0
+  Counted i owned = (c : ℕ) → c < length owned → getD owned c 0 ≡ tally i (marks kind class owner c)
+
+  pub counted-start : (n : ℕ) → Counted 0 (replicate n 0)
+  unfolding tally
+  counted-start n c h = getD-replicate n c 0 0 (simp length-replicate at h)
+
+  counted-few : (i w : ℕ) (owned : List ℕ) → Counted i owned → getD owned w 0 ≤ i
+  counted-few i w owned h = go (ltb w (length owned)) refl
+    where
+      go : (b : Bool) → ltb w (length owned) ≡ b → getD owned w 0 ≤ i
+      go true e = omega (arith, h w (ltb-true w (length owned) e), tally-few (marks kind class owner w) i)
+      go false e = omega (arith, List·getD-eq-default owned 0 (ltb-false w (length owned) e))
+
+  pub counted-room : (i w n : ℕ) (owned : List ℕ) → i < n → n ≤ mostObjects → Counted i owned
+      → getD owned w 0 ≤ mostObjects
+  counted-room i w n owned l m h = omega (arith, counted-few i w owned h)
+
+  pub counted-go : (i : ℕ) (owned next : List ℕ) → Counted i owned
+      → next ≡ noted owned (getD kind (i + 1) 0) (getD class (i + 1) 0) (getD owner (i + 1) 0) → Counted (i + 1) next
+  unfolding marks
+  counted-go i owned next h e c l =
+      let k = getD kind (i + 1) 0 in
+      let m = getD class (i + 1) 0 in
+      let w = getD owner (i + 1) 0 in
+      let q : c < length owned = omega (arith, note-length owned k m w, ap (λ (t : List ℕ). length t) e) in
+      rw (e, note-get owned k m w c q, tally-go (marks kind class owner c) i, h c q)
 
 -- a loop over entries, at entry i
 module _ (p : Entry → Bool) (table : List ℕ) (k i at : ℕ) where
@@ -168,16 +240,26 @@ module _ (config : Config) where
   paired-same = rw (every-same (config .counts .devices) _ _ (λ c low high. one-same c))
 
 -- both parts of it, as they are asked
+and-true : (b : Bool) → b && true ≡ b
+and-true true = refl
+and-true false = refl
+
 module _ (counts : Counts) (kind class owner : List ℕ) where
-  pub paired-no : (a : Bool) → a ≡ upTo (counts .devices) (hasOne kind class owner (counts .objects)) → a ≡ false
+  pub paired-no : (i : ℕ) → i < counts .objects → deviceOwned kind class (i + 1) ≡ false
       → false ≡ pairedBy counts kind class owner
   unfolding pairedBy
-  paired-no a e z = rw (← e, z)
+  paired-no i h e =
+      rw (← up-stop (deviceOwned kind class) (counts .objects) i h e)
+      (sym (and-false (upTo (counts .devices) (hasOne kind class owner (counts .objects)))))
 
-  pub paired-rest : (a r : Bool) → a ≡ upTo (counts .devices) (hasOne kind class owner (counts .objects)) → a ≡ true
-      → r ≡ upTo (counts .objects) (deviceOwned kind class) → r ≡ pairedBy counts kind class owner
-  unfolding pairedBy
-  paired-rest a r e z p = rw (← e, z, p)
+  pub paired-rest : (i : ℕ) (owned : List ℕ) (r : Bool) → i ≤ counts .objects → counts .objects ≤ i
+      → upTo i (deviceOwned kind class) ≡ true → Counted kind class owner i owned → counts .devices < length owned
+      → r ≡ upTo (counts .devices) (oneIn owned) → r ≡ pairedBy counts kind class owner
+  unfolding pairedBy upTo oneIn hasOne
+  paired-rest i owned r l m d h v e =
+      let q : i ≡ counts .objects = omega arith in
+      rw (e, ← up-end (deviceOwned kind class) (counts .objects) i d l m, and-true, ← q)
+      (every-same (counts .devices) _ _ (λ c low high. ap (λ (n : ℕ). eqb n 1) (h c (omega arith))))
 
 -- the entries of a value: value 0 has none
 module _ (p : Entry → Bool) (count table : List ℕ) where

@@ -1,8 +1,8 @@
 -- Questions 5 and 6 by the columns that they look at. proofs/Questions has that these are the model's.
-use Prim.Native.Nat.{ℕ, zero, suc}
+use Prim.Native.Nat.{ℕ, zero, suc, _+_}
 use mathlib.Core.List.{List}
 use mathlib.Core.Bool.{Bool, true, false, not, cond, _&&_, _||_}
-use lib.ListN.{getD, length}
+use lib.ListN.{getD, set, length}
 use lib.Dec.{eqb}
 use Rattle.model.specs.Base.{all, every}
 use Rattle.model.specs.Config.{from1to, entryPlace, Entry, entriesFrom}
@@ -25,9 +25,13 @@ tally n p = howMany n p
 unfoldable pub marks : List ℕ → List ℕ → List ℕ → ℕ → ℕ → Bool
 marks kind class owner c n = eqb (getD kind n 0) 4 && eqb (getD class n 0) 2 && eqb (getD owner n 0) c
 
--- 1 for such an object, else 0
-unfoldable pub markOf : ℕ → ℕ → ℕ → ℕ → ℕ
-markOf kind class owner c = cond (eqb kind 4 && eqb class 2 && eqb owner c) 1 0
+-- a table of how many hardcoded descriptors each device has, after one more object
+unfoldable pub noted : List ℕ → ℕ → ℕ → ℕ → List ℕ
+noted owned kind class owner = cond (eqb kind 4 && eqb class 2) (set owned owner (getD owned owner 0 + 1)) owned
+
+-- device c has exactly one by that table
+unfoldable pub oneIn : List ℕ → ℕ → Bool
+oneIn owned c = eqb (getD owned c 0) 1
 
 -- device c has exactly one among objects 1 to n
 unfoldable pub hasOne : List ℕ → List ℕ → List ℕ → ℕ → ℕ → Bool

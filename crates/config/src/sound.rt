@@ -1,14 +1,14 @@
 // Questions 5 and 6 over a configuration that was read.
 ghost use mathlib.Core.Path.{_≡_};
 ghost use mathlib.Core.Bool.{not, _||_};
-ghost use Prim.Native.Nat.{_+_, _*_, _≤_};
+ghost use Prim.Native.Nat.{suc, _+_, _*_, _≤_};
 ghost use lib.Dec.{eqb};
-ghost use lib.ListN.{getD};
-ghost use Rattle.model.specs.Config.{mostObjects, entryBytes, entryAt};
+ghost use lib.ListN.{length, getD};
+ghost use Rattle.model.specs.Config.{mostDevices, mostObjects, entryBytes, entryAt};
 ghost use Rattle.model.specs.ConfigFile.{restrained};
 ghost use Rattle.config.specs.Columns.{configOf, Within};
-ghost use Rattle.config.specs.Sound.{farPlace, upTo, tally, marks, markOf, hasOne};
-ghost use Rattle.config.specs.Sound.{deviceOwned, pairedBy, mayName, entryPasses, allFrom, valuePasses};
+ghost use Rattle.config.specs.Sound.{farPlace, upTo, noted, oneIn};
+ghost use Rattle.config.specs.Sound.{pairedBy, mayName, entryPasses, allFrom, valuePasses};
 use model::Counts;
 use model::DEVICE_CLASS;
 use model::DEVICE_SLOTS;
@@ -28,82 +28,45 @@ fn look(a: &[u8], i: usize) -> u8
     if i < a.len() { a[i] } else { 0 }
 }
 
-// 1 for an object of kind 4 that device v owns, else 0.
-fn mark(kind: u8, class: u8, owner: u8, v: u8) -> u8
-    ensures { λ r. ⌜ r ≡ markOf kind class owner v ⌝ }
-{
-    let hit = (kind == HARDCODED_KIND) & (class == DEVICE_CLASS) & (owner == v);
-    if hit { 1 } else { 0 }
-}
-
-// How many of the objects 1 to n are of kind 4 and device v's.
-fn count_marks<'a>(
-    kind: &'a [u8; OBJECT_SLOTS],
-    class: &'a [u8; OBJECT_SLOTS],
-    owner: &'a [u8; OBJECT_SLOTS],
-    n: u8,
-    v: u8,
-) -> u8
-    requires { ⌜ n ≤ mostObjects ⌝ }
-    ensures { λ r. ⌜ r ≡ tally n (marks (now (kind .entry)) (now (class .entry)) (now (owner .entry)) v) ⌝ }
-{
-    let end = n as usize;
-    let mut t: u8 = 0;
-    let mut i: usize = 0;
-    while i < end {
-        i += 1;
-        t += mark(kind[i], class[i], owner[i], v);
-    }
-    t
-}
-
-// Each of the devices 1 to V has exactly one kind 4 object.
-fn each_has_one<'a>(
-    counts: Counts,
-    kind: &'a [u8; OBJECT_SLOTS],
-    class: &'a [u8; OBJECT_SLOTS],
-    owner: &'a [u8; OBJECT_SLOTS],
-) -> bool
-    requires { ⌜ Within counts ⌝ }
-    ensures { λ r.
-        ⌜ r ≡ upTo (counts .devices)
-        (hasOne (now (kind .entry)) (now (class .entry)) (now (owner .entry)) (counts .objects)) ⌝ }
-{
-    let n = counts.devices;
-    let mut i: u8 = 0;
-    while i < n {
-        i += 1;
-        if count_marks(kind, class, owner, counts.objects, i) != 1 {
-            return false;
-        }
-    }
-    true
-}
-
-// An object of kind 4 is a device's.
-fn is_device_owned(kind: u8, class: u8) -> bool
+// An object of kind 4 is a device's, and is counted to that device; other objects pass.
+fn note(owned: &mut [u8; DEVICE_SLOTS], kind: u8, class: u8, owner: u8) -> bool
+    requires { ⌜ length (now owned) ≡ suc mostDevices ⌝ }
+    requires { ⌜ getD (now owned) owner 0 ≤ mostObjects ⌝ }
     ensures { λ r. ⌜ r ≡ (not (eqb kind 4) || eqb class 2) ⌝ }
+    ensures { λ r. ⌜ now (owned .exit) ≡ noted (now (owned .entry)) kind class owner ⌝ }
 {
-    (kind != HARDCODED_KIND) | (class == DEVICE_CLASS)
+    if kind != HARDCODED_KIND {
+        return true;
+    }
+    if class != DEVICE_CLASS {
+        return false;
+    }
+    let i = owner as usize;
+    if DEVICE_SLOTS <= i {
+        return true;
+    }
+    let n = owned[i];
+    owned[i] = n + 1;
+    true
 }
 
-// Each of the objects 1 to n.
-fn all_device_owned<'a>(kind: &'a [u8; OBJECT_SLOTS], class: &'a [u8; OBJECT_SLOTS], n: u8) -> bool
-    requires { ⌜ n ≤ mostObjects ⌝ }
-    ensures { λ r. ⌜ r ≡ upTo n (deviceOwned (now (kind .entry)) (now (class .entry))) ⌝ }
+// Each of the devices 1 to n has exactly one.
+fn each_has_one(owned: &[u8; DEVICE_SLOTS], n: u8) -> bool
+    requires { ⌜ n ≤ mostDevices ⌝ }
+    ensures { λ r. ⌜ r ≡ upTo n (oneIn (now (owned .entry))) ⌝ }
 {
     let end = n as usize;
     let mut i: usize = 0;
     while i < end {
         i += 1;
-        if !is_device_owned(kind[i], class[i]) {
+        if owned[i] != 1 {
             return false;
         }
     }
     true
 }
 
-// Question 5.
+// Question 5, in one pass over the objects.
 pub fn is_paired<'a>(
     counts: Counts,
     kind: &'a [u8; OBJECT_SLOTS],
@@ -113,10 +76,16 @@ pub fn is_paired<'a>(
     requires { ⌜ Within counts ⌝ }
     ensures { λ r. ⌜ r ≡ pairedBy counts (now (kind .entry)) (now (class .entry)) (now (owner .entry)) ⌝ }
 {
-    if !each_has_one(counts, kind, class, owner) {
-        return false;
+    let end = counts.objects as usize;
+    let mut owned = [0u8; DEVICE_SLOTS];
+    let mut i: usize = 0;
+    while i < end {
+        i += 1;
+        if !note(&mut owned, kind[i], class[i], owner[i]) {
+            return false;
+        }
     }
-    all_device_owned(kind, class, counts.objects)
+    each_has_one(&owned, counts.devices)
 }
 
 // The hardcoded value of device v may name object o by this mode.

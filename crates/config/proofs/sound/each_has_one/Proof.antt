@@ -4,16 +4,16 @@ use Prim.Native.Nat.{_≤_, _-_}
 use borrow.Author.Tests.{eq-eqb, ne-eqb}
 use mathlib.Core.Bool.{true}
 use mathlib.Core.Path.{_≡_}
-use Rattle.config.specs.Sound.{upTo, hasOne}
+use Rattle.config.specs.Sound.{upTo, oneIn}
 use Rattle.config.proofs.Questions
 use Rattle.config.proofs.sound.each_has_one.Statement.{statement}
 use Rattle.config.proofs.sound.each_has_one.Tie as tie
 
 abbrev Inv-loop : tie.InvT-loop
-Inv-loop counts kind class owner n i₀ i = (i ≤ n) × (upTo i (hasOne kind class owner (counts .objects)) ≡ true)
+Inv-loop owned n end i₀ i = (i ≤ n) × (upTo i (oneIn owned) ≡ true)
 
 abbrev μ-loop : tie.MeasureT-loop
-μ-loop counts kind class owner n i₀ i = n - i
+μ-loop owned n end i₀ i = n - i
 
 loop-holds : tie.Need-loop-holds Inv-loop μ-loop
 loop-holds c = (search needs, Questions.up-start _)
@@ -21,24 +21,21 @@ loop-holds c = (search needs, Questions.up-start _)
 add-i : tie.Need-add-i Inv-loop μ-loop
 add-i c = search needs
 
-count-marks-requires : tie.Need-count-marks-requires Inv-loop μ-loop
-count-marks-requires c κs = search needs
+element-copy-out-if1 : tie.Need-element-copy-out-if1 Inv-loop μ-loop
+element-copy-out-if1 c = search needs
 
 returns : tie.Need-returns Inv-loop μ-loop
-unfolding hasOne
-returns c =
-    Questions.up-stop _ _ _ (c .before .before .loop-test .taken)
-    (rw (← c .before .count-marks .ensures, ne-eqb _ _ (c .if1 .taken)))
+unfolding oneIn
+returns c = Questions.up-stop _ _ _ (c .before .before .loop-test .taken) (ne-eqb _ _ (c .if1 .taken))
 
 loop-less : tie.Need-loop-less Inv-loop μ-loop
 loop-less c = search needs
 
 loop-again : tie.Need-loop-again Inv-loop μ-loop
-unfolding hasOne
+unfolding oneIn
 loop-again c = (
   search needs,
-  Questions.up-go _ _ (c .before .before .before .loop .inv .1)
-      (rw (← c .before .count-marks .ensures, eq-eqb _ _ (c .if1 .left))),
+  Questions.up-go _ _ (c .before .before .before .loop .inv .1) (eq-eqb _ _ (c .if1 .left)),
 )
 
 returns-2 : tie.Need-returns-2 Inv-loop μ-loop
@@ -52,7 +49,7 @@ each-has-one-spec =
     μ-loop
     loop-holds
     add-i
-    count-marks-requires
+    element-copy-out-if1
     returns
     loop-less
     loop-again

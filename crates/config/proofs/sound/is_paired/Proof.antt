@@ -1,26 +1,99 @@
--- `config::sound::is_paired` meets its contract: both parts of question 5, as they are asked. Assumes nothing.
-use borrow.Author.Tests.{not-true, not-false}
-use Rattle.config.proofs.Questions
+-- `config::sound::is_paired` meets its contract: objects 1 to i have passed and are counted. Assumes nothing.
 use borrow.Author.Needs.{needs}
+use Prim.Native.Nat.{suc, _+_, _≤_, _-_}
+use native.Mathlib.Omega.{arith}
+use borrow.Author.Tests.{not-true, not-false}
+use mathlib.Core.Bool.{true}
+use mathlib.Core.Path.{_≡_, refl, sym, _∙_}
+use lib.ListN.{length, getD}
+use Rattle.model.specs.Config.{mostDevices}
+use Rattle.config.specs.Sound.{upTo, deviceOwned}
+use Rattle.config.proofs.Questions
 use Rattle.config.proofs.sound.is_paired.Statement.{statement}
 use Rattle.config.proofs.sound.is_paired.Tie as tie
 
-each-has-one-requires : tie.Need-each-has-one-requires
+abbrev Inv-loop : tie.InvT-loop
+Inv-loop counts kind class owner end owned₀ i₀ owned i =
+    (i ≤ counts .objects) × (length owned ≡ suc mostDevices) × (upTo i (deviceOwned kind class) ≡ true)
+    × Questions.Counted kind class owner i owned
+
+abbrev μ-loop : tie.MeasureT-loop
+μ-loop counts kind class owner end owned₀ i₀ owned i = counts .objects - i
+
+cast-end : tie.Need-cast-end Inv-loop μ-loop
+cast-end c = search needs
+
+loop-holds : tie.Need-loop-holds Inv-loop μ-loop
+loop-holds c = (search needs, refl, Questions.up-start _, Questions.counted-start _ _ _ (suc mostDevices))
+
+add-i : tie.Need-add-i Inv-loop μ-loop
+add-i c = search needs
+
+element-copy-out-note : tie.Need-element-copy-out-note Inv-loop μ-loop
+element-copy-out-note c = search needs
+
+element-copy-out-note-2 : tie.Need-element-copy-out-note-2 Inv-loop μ-loop
+element-copy-out-note-2 c = search needs
+
+element-copy-out-note-3 : tie.Need-element-copy-out-note-3 Inv-loop μ-loop
+element-copy-out-note-3 c = search needs
+
+note-requires : tie.Need-note-requires Inv-loop μ-loop
+note-requires c κs =
+    let l = c .before .before .before .before .before .loop in
+    let w = getD (c .before .before .before .before .before .before .before .args .owner .now) (l .i + 1) 0 in (
+      l .inv .1,
+      Questions.counted-room _ _ _ _ w _ (l .owned) (c .before .before .before .before .loop-test .taken)
+          (c .before .before .before .before .before .before .before .pre .objects) (l .inv .3),
+    )
+
+returns : tie.Need-returns Inv-loop μ-loop
+unfolding deviceOwned
+returns c =
+    Questions.paired-no _ _ _ _ _ (c .before .before .before .before .before .before .loop-test .taken)
+    (sym (c .before .note .ensures .0) ∙ not-true (c .before .note .result) (c .if1 .taken))
+
+loop-less : tie.Need-loop-less Inv-loop μ-loop
+loop-less c = search needs
+
+loop-again : tie.Need-loop-again Inv-loop μ-loop
+unfolding deviceOwned
+loop-again c = (
+  search needs,
+  Questions.note-kept _ _ _ _ (c .before .before .before .before .before .before .before .loop .inv .1)
+      (c .before .note .ensures .1),
+  Questions.up-go _ _ (c .before .before .before .before .before .before .before .loop .inv .2)
+      (sym (c .before .note .ensures .0) ∙ not-false (c .before .note .result) (c .if1 .left)),
+  Questions.counted-go _ _ _ _ _ _ (c .before .before .before .before .before .before .before .loop .inv .3)
+      (c .before .note .ensures .1),
+)
+
+each-has-one-requires : tie.Need-each-has-one-requires Inv-loop μ-loop
 each-has-one-requires c κs = search needs
 
-returns : tie.Need-returns
-returns c =
-    Questions.paired-no _ _ _ _ _ (c .before .each-has-one .ensures)
-    (not-true (c .before .each-has-one .result) (c .if1 .taken))
-
-all-device-owned-requires : tie.Need-all-device-owned-requires
-all-device-owned-requires c κs = search needs
-
-returns-2 : tie.Need-returns-2
+returns-2 : tie.Need-returns-2 Inv-loop μ-loop
 returns-2 c =
-    Questions.paired-rest _ _ _ _ _ _ (c .before .before .each-has-one .ensures)
-    (not-false (c .before .before .each-has-one .result) (c .before .if1 .left)) (c .all-device-owned .ensures)
+    Questions.paired-rest _ _ _ _ _ _ _ (c .before .before .before .loop .inv .0)
+    (c .before .before .loop-test .left)
+    (c .before .before .before .loop .inv .2) (c .before .before .before .loop .inv .3)
+    (omega (arith, c .before .before .before .loop .inv .1, c .before .before .before .before .before .pre .devices))
+    (c .each-has-one .ensures)
 
 pub is-paired-spec : {M : Type 1} → statement M
 is-paired-spec =
-    tie.close (tie.spec each-has-one-requires returns all-device-owned-requires returns-2)
+    tie.close
+    (tie.spec
+    Inv-loop
+    μ-loop
+    cast-end
+    loop-holds
+    add-i
+    element-copy-out-note
+    element-copy-out-note-2
+    element-copy-out-note-3
+    note-requires
+    returns
+    loop-less
+    loop-again
+    each-has-one-requires
+    returns-2)
