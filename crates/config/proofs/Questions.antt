@@ -3,7 +3,7 @@
 use Prim.Native.Nat.{ℕ, zero, suc, _+_, _-_, _≤_, _<_}
 use mathlib.Core.Path.{_≡_, refl, sym, ap, _∙_}
 use mathlib.Core.List.{List, [], _∷_}
-use mathlib.Core.Bool.{Bool, true, false, cond, _&&_}
+use mathlib.Core.Bool.{Bool, true, false, not, cond, _&&_, _||_}
 use native.Mathlib.Omega.{arith}
 use native.Mathlib.Decide.{ℕ-discrete}
 use native.Mathlib.Numerals.{add-one}
@@ -19,7 +19,7 @@ use lib.ListN.{
 }
 use lib.Seq.{getD-set-same, getD-set-other}
 use lib.Dec.{eqb, ltb}
-use borrow.Author.Tests.{le-leb, eq-eqb, ne-eqb, ltb-true, ltb-false}
+use borrow.Author.Tests.{le-leb, lt-leb, eq-eqb, ne-eqb, ltb-true, ltb-false}
 use Rattle.model.specs.Base.{all, every}
 use Rattle.model.specs.Config.{
   mostObjects,
@@ -260,6 +260,22 @@ module _ (counts : Counts) (kind class owner : List ℕ) where
       let q : i ≡ counts .objects = omega arith in
       rw (e, ← up-end (deviceOwned kind class) (counts .objects) i d l m, and-true, ← q)
       (every-same (counts .devices) _ _ (λ c low high. ap (λ (n : ℕ). eqb n 1) (h c (omega arith))))
+
+-- an object that is none, one past the last, and one of the configuration's
+module _ (kind class owner : List ℕ) (n c o mode : ℕ) where
+  pub name-none : o ≡ 0 → false ≡ mayName kind class owner n c o mode
+  unfolding mayName
+  name-none h = rw (lt-leb 1 o (omega arith))
+
+  pub name-past : n < o → false ≡ mayName kind class owner n c o mode
+  unfolding mayName
+  name-past h = rw (lt-leb o n h, and-false)
+
+  pub name-rest : (o ≡ 0 → ⊥) → o ≤ n
+      → (eqb (getD class o 0) 2 && eqb (getD owner o 0) c) && not (eqb (getD kind o 0) 4)
+      && (not (eqb (getD kind o 0) 1) || eqb mode 1) ≡ mayName kind class owner n c o mode
+  unfolding mayName
+  name-rest h l = rw (le-leb 1 o (omega arith), le-leb o n l)
 
 -- the entries of a value: value 0 has none
 module _ (p : Entry → Bool) (count table : List ℕ) where

@@ -90,34 +90,42 @@ pub fn is_paired<'a>(
 
 // The hardcoded value of device v may name object o by this mode.
 fn may_name<'a>(
-    kind: &'a [u8],
-    class: &'a [u8],
-    owner: &'a [u8],
+    kind: &'a [u8; OBJECT_SLOTS],
+    class: &'a [u8; OBJECT_SLOTS],
+    owner: &'a [u8; OBJECT_SLOTS],
     n: u8,
     v: u8,
     o: u8,
     mode: u8,
 ) -> bool
+    requires { ⌜ n ≤ mostObjects ⌝ }
     ensures { λ r. ⌜ r ≡ mayName (now (kind .entry)) (now (class .entry)) (now (owner .entry)) n v o mode ⌝ }
 {
+    if o == 0 {
+        return false;
+    }
+    if n < o {
+        return false;
+    }
     let i = o as usize;
-    let k = look(kind, i);
-    let c = look(class, i);
-    let w = look(owner, i);
-    let own = ((1 <= o) & (o <= n)) & (c == DEVICE_CLASS) & (w == v);
+    let k = kind[i];
+    let c = class[i];
+    let w = owner[i];
+    let own = (c == DEVICE_CLASS) & (w == v);
     own & (k != HARDCODED_KIND) & ((k != TRANSFER_KIND) | (mode == READ_MODE))
 }
 
 // The entry at a place of the table is one that the hardcoded value of device v may have.
 fn entry_passes<'a>(
-    kind: &'a [u8],
-    class: &'a [u8],
-    owner: &'a [u8],
+    kind: &'a [u8; OBJECT_SLOTS],
+    class: &'a [u8; OBJECT_SLOTS],
+    owner: &'a [u8; OBJECT_SLOTS],
     entries: &'a [u8],
     n: u8,
     v: u8,
     at: usize,
 ) -> bool
+    requires { ⌜ n ≤ mostObjects ⌝ }
     requires { ⌜ at ≤ farPlace ⌝ }
     ensures { λ r.
         ⌜ r ≡ entryPasses (now (kind .entry)) (now (class .entry)) (now (owner .entry)) n v
@@ -130,15 +138,16 @@ fn entry_passes<'a>(
 
 // The k entries from a place of the table on are such.
 fn entries_pass<'a>(
-    kind: &'a [u8],
-    class: &'a [u8],
-    owner: &'a [u8],
+    kind: &'a [u8; OBJECT_SLOTS],
+    class: &'a [u8; OBJECT_SLOTS],
+    owner: &'a [u8; OBJECT_SLOTS],
     entries: &'a [u8],
     n: u8,
     v: u8,
     at: usize,
     k: u8,
 ) -> bool
+    requires { ⌜ n ≤ mostObjects ⌝ }
     requires { ⌜ at + entryBytes * k ≤ farPlace ⌝ }
     ensures { λ r.
         ⌜ r ≡ allFrom (entryPasses (now (kind .entry)) (now (class .entry)) (now (owner .entry)) n v)
@@ -158,15 +167,16 @@ fn entries_pass<'a>(
 
 // The hardcoded value w of device v names only what it may.
 fn value_passes<'a>(
-    kind: &'a [u8],
-    class: &'a [u8],
-    owner: &'a [u8],
+    kind: &'a [u8; OBJECT_SLOTS],
+    class: &'a [u8; OBJECT_SLOTS],
+    owner: &'a [u8; OBJECT_SLOTS],
     count: &'a [u8],
     entries: &'a [u8],
     n: u8,
     v: u8,
     w: u8,
 ) -> bool
+    requires { ⌜ n ≤ mostObjects ⌝ }
     ensures { λ r.
         ⌜ r ≡ valuePasses (entryPasses (now (kind .entry)) (now (class .entry)) (now (owner .entry)) n v)
         (now (count .entry)) (now (entries .entry)) w ⌝ }

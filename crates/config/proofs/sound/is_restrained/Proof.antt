@@ -35,7 +35,7 @@ value-passes-requires c κs = search needs
 returns : tie.Need-returns Inv-loop μ-loop
 unfolding deviceRestrained
 returns c =
-    Questions.up-stop _ _ _ (c .before .before .before .before .before .before .before .before .loop-test .taken)
+    Questions.up-stop _ _ _ (c .before .before .before .before .before .loop-test .taken)
     (sym (c .before .value-passes .ensures) ∙ not-true (c .before .value-passes .result) (c .if1 .taken))
     ∙ Questions.restrained-same _
 
@@ -46,7 +46,7 @@ loop-again : tie.Need-loop-again Inv-loop μ-loop
 unfolding deviceRestrained
 loop-again c = (
   search needs,
-  Questions.up-go _ _ (c .before .before .before .before .before .before .before .before .before .loop .inv .1)
+  Questions.up-go _ _ (c .before .before .before .before .before .before .loop .inv .1)
       (sym (c .before .value-passes .ensures) ∙ not-false (c .before .value-passes .result) (c .if1 .left)),
 )
 

@@ -1,21 +1,30 @@
--- `config::sound::may_name` meets its contract: the tests are the definition's. Assumes nothing.
+-- `config::sound::may_name` meets its contract: one law for each way out. Assumes nothing.
+use Rattle.config.proofs.Questions
 use borrow.Author.Needs.{needs}
-use Rattle.config.specs.Sound.{mayName}
 use Rattle.config.proofs.sound.may_name.Statement.{statement}
 use Rattle.config.proofs.sound.may_name.Tie as tie
 
-look-requires : tie.Need-look-requires
-look-requires c κs = search needs
-
-look-requires-2 : tie.Need-look-requires-2
-look-requires-2 c κs = search needs
-
-look-requires-3 : tie.Need-look-requires-3
-look-requires-3 c κs = search needs
-
 returns : tie.Need-returns
-unfolding mayName
-returns c = rw (c .before .before .look .ensures, c .before .look2 .ensures, c .look3 .ensures)
+returns c = Questions.name-none _ _ _ _ _ _ _ (c .if1 .taken)
+
+returns-2 : tie.Need-returns-2
+returns-2 c = Questions.name-past _ _ _ _ _ _ _ (c .if2 .taken)
+
+element-copy-out-k : tie.Need-element-copy-out-k
+element-copy-out-k c = search needs
+
+element-copy-out-c : tie.Need-element-copy-out-c
+element-copy-out-c c = search needs
+
+element-copy-out-w : tie.Need-element-copy-out-w
+element-copy-out-w c = search needs
+
+returns-3 : tie.Need-returns-3
+returns-3 c =
+    Questions.name-rest _ _ _ _ _ _ _ (c .before .before .before .before .if1 .left)
+    (c .before .before .before .if2 .left)
 
 pub may-name-spec : {M : Type 1} → statement M
-may-name-spec = tie.close (tie.spec look-requires look-requires-2 look-requires-3 returns)
+may-name-spec =
+    tie.close
+    (tie.spec returns returns-2 element-copy-out-k element-copy-out-c element-copy-out-w returns-3)
