@@ -6,8 +6,9 @@ use mathlib.Core.List.{List}
 use mathlib.Core.Bool.{Bool, true, false, cond, false≢true, _&&_}
 use lib.ListN.{length, getD}
 use lib.Dec.{leb, ltb, eqb}
-use borrow.Author.Tests.{le-leb, leb-true, ltb-true, ltb-false}
+use borrow.Author.Tests.{le-leb, lt-leb, leb-true, ltb-true, ltb-false, eqb-true, eq-eqb, ne-eqb}
 use native.Mathlib.Omega.{arith}
+use native.Mathlib.Decide.{ℕ-discrete}
 use Rattle.model.specs.Config.{
   mostDrivers,
   mostDevices,
@@ -21,6 +22,7 @@ use Rattle.model.specs.Config.{
 use Rattle.model.specs.ConfigFile.{
   fieldAt,
   onField,
+  countsAt,
   ownerLeast,
   ownerMost,
   read,
@@ -31,12 +33,13 @@ use Rattle.model.specs.ConfigFile.{
   entry,
 }
 use Rattle.model.specs.declared.Field.the-variants.{Value}
+use Rattle.model.specs.declared.Head.the-variants.{Counted}
 use Rattle.model.specs.declared.Counts.{Counts}
 use Rattle.model.specs.declared.Objects.{Objects}
 use Rattle.model.specs.declared.Values.{Values}
 use Rattle.varint.proofs.Laws.{number-one}
 use Rattle.config.specs.Columns.{Within}
-use Rattle.config.specs.Quick.{oneByte, oneByteMost, isObject, namesObject}
+use Rattle.config.specs.Quick.{oneByte, oneByteMost, isOwner, isObject, namesObject, countsFit}
 use Rattle.config.proofs.Laws.{field-value}
 
 and-left : (a b : Bool) → a && b ≡ true → a ≡ true
@@ -91,16 +94,15 @@ stored-few counts kinds o mode h = go (eqb (getD kinds o 0) 1 && leb 2 mode) (h 
 module _ (s : List ℕ) (counts : Counts) (o at : ℕ) (t : Objects) (k c w : ℕ) (h : at < length s - 2) where
   pub object-quick : k ≡ getD s at 0 → c ≡ getD s (at + 1) 0 → w ≡ getD s (at + 2) 0 → isObject counts k c w ≡ true
       → Within counts → read (setObject t o k c w) (at + 3) ≡ object s counts o at t
-  unfolding isObject object onField
+  unfolding isObject isOwner object onField
   object-quick e f g z within =
-      let first : Bool = leb 1 k && leb k mostKind && leb c mostClass && leb (ownerLeast c) w in
-      let a = and-four (leb 1 k) (leb k mostKind) (leb c mostClass) (leb (ownerLeast c) w)
-      (and-left first (leb w (ownerMost counts c)) z) in
+      let a = and-four (leb 1 k) (leb k mostKind) (leb c mostClass) (isOwner counts c w) z in
       let k1 = leb-true 1 k (a .0) in
       let k2 = leb-true k mostKind (a .1) in
       let c2 = leb-true c mostClass (a .2) in
-      let w1 = leb-true (ownerLeast c) w (a .3) in
-      let w2 = leb-true w (ownerMost counts c) (and-right first (leb w (ownerMost counts c)) z) in
+      let w1 = leb-true (ownerLeast c) w (and-left (leb (ownerLeast c) w) (leb w (ownerMost counts c)) (a .3)) in
+      let w2 =
+      leb-true w (ownerMost counts c) (and-right (leb (ownerLeast c) w) (leb w (ownerMost counts c)) (a .3)) in
       let few = owner-few counts c within in
       let two : at + 1 + 1 ≡ at + 2 = omega arith in
       let three : at + 2 + 1 ≡ at + 3 = omega arith in
@@ -150,3 +152,45 @@ object-few counts o mode z within =
 -- a stored value of 0 is in every range
 pub none-stored : (w m : ℕ) → w ≡ 0 → true ≡ leb w m
 none-stored w m h = sym (le-leb w m (omega arith))
+
+-- the range of an owner by its class
+module _ (counts : Counts) (c w : ℕ) where
+  pub owner-none : c ≡ 0 → eqb w 0 ≡ isOwner counts c w
+  unfolding isOwner ownerLeast ownerMost
+  owner-none h = rw (eq-eqb c 0 h, le-leb 0 w (omega arith)) (go (ℕ-discrete w 0))
+    where
+      go : Dec (w ≡ 0) → eqb w 0 ≡ leb w 0
+      go (yes e) = rw (eq-eqb w 0 e, le-leb w 0 (omega arith))
+      go (no e) = rw (ne-eqb w 0 e, lt-leb w 0 (omega arith))
+
+  pub owner-driver : (c ≡ 0 → ⊥) → c ≡ 1 → (leb 1 w && leb w (counts .drivers)) ≡ isOwner counts c w
+  unfolding isOwner ownerLeast ownerMost
+  owner-driver h e = rw (ne-eqb c 0 h, eq-eqb c 1 e)
+
+  pub owner-device : (c ≡ 0 → ⊥) → (c ≡ 1 → ⊥) → (leb 1 w && leb w (counts .devices)) ≡ isOwner counts c w
+  unfolding isOwner ownerLeast ownerMost
+  owner-device h e = rw (ne-eqb c 0 h, ne-eqb c 1 e)
+
+-- five bytes are the edition and the counts
+pub counts-quick : (s : List ℕ) (e d v n k : ℕ) → 5 ≤ length s → e ≡ getD s 0 0 → d ≡ getD s 1 0 → v ≡ getD s 2 0
+    → n ≡ getD s 3 0 → k ≡ getD s 4 0 → countsFit e d v n k ≡ true
+    → Counted (record { drivers = d; devices = v; objects = n; values = k }) 5 ≡ countsAt s
+unfolding countsFit countsAt onField
+counts-quick s e d v n k h p q r t u z =
+    let first : Bool = eqb e 1 && leb d mostDrivers && leb v mostDevices && leb n (oneByteMost mostObjects) in
+    let a =
+    and-four (eqb e 1) (leb d mostDrivers) (leb v mostDevices) (leb n (oneByteMost mostObjects))
+    (and-left first (leb k mostValues) z) in
+    let top = most-within mostObjects in
+    let e1 = eqb-true e 1 (a .0) in
+    let d2 = leb-true d mostDrivers (a .1) in
+    let v2 = leb-true v mostDevices (a .2) in
+    let n2 = leb-true n (oneByteMost mostObjects) (a .3) in
+    let k2 = leb-true k mostValues (and-right first (leb k mostValues) z) in
+    rw (
+      field-one s 0 1 1 e (omega arith) p (omega (arith, e1)) (omega (arith, e1)) (omega (arith, e1)),
+      field-one s 1 0 mostDrivers d (omega arith) q (omega (arith, d2)) (omega arith) d2,
+      field-one s 2 0 mostDevices v (omega arith) r (omega (arith, v2)) (omega arith) v2,
+      field-one s 3 0 mostObjects n (omega arith) t (omega (arith, n2, top)) (omega arith) (omega (arith, n2, top)),
+      field-one s 4 0 mostValues k (omega arith) u (omega (arith, k2)) (omega arith) k2,
+    )

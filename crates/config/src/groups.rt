@@ -7,8 +7,9 @@ ghost use Rattle.model.specs.declared.Reading.the-variants.{Refused};
 ghost use Rattle.model.specs.Config.{mostDevices, mostObjects};
 ghost use Rattle.model.specs.ConfigFile.{fieldQuestion, countsAt, ownerLeast, ownerMost, object, device, turns};
 ghost use Rattle.config.specs.Columns.{objectsOf, devicesOf, progress, Within};
-ghost use Rattle.config.specs.Quick.{isObject};
+ghost use Rattle.config.specs.Quick.{isOwner, isObject, countsFit};
 use crate::fields::field_question;
+use crate::fields::one_byte_most;
 use crate::fields::reach;
 use crate::fields::read_field;
 use model::Counts;
@@ -38,8 +39,8 @@ pub fn refused(f: Field) -> Reading
     Reading::Refused(field_question(f))
 }
 
-// Edition, drivers, devices, objects, values.
-pub fn read_counts(s: &[u8]) -> Head
+// Edition, drivers, devices, objects, values, field by field.
+fn counts_by_fields(s: &[u8]) -> Head
     ensures { λ r. ⌜ r ≡ countsAt (now (s .entry)) ⌝ }
 {
     let f = read_field(s, 0, 1, 1);
@@ -71,6 +72,43 @@ pub fn read_counts(s: &[u8]) -> Head
         },
         next,
     )
+}
+
+// The bytes of the edition and the counts are numbers in their ranges.
+fn counts_fit(edition: u8, drivers: u8, devices: u8, objects: u8, values: u8) -> bool
+    ensures { λ r. ⌜ r ≡ countsFit edition drivers devices objects values ⌝ }
+{
+    let most = one_byte_most(MOST_OBJECTS);
+    (edition == 1)
+        & (drivers <= MOST_DRIVERS)
+        & (devices <= MOST_DEVICES)
+        & (objects <= most)
+        & (values <= MOST_VALUES)
+}
+
+// Edition and counts: as most files have them, in five bytes; else field by field, which finds what is refused.
+pub fn read_counts(s: &[u8]) -> Head
+    ensures { λ r. ⌜ r ≡ countsAt (now (s .entry)) ⌝ }
+{
+    if 5 <= s.len() {
+        let edition = s[0];
+        let drivers = s[1];
+        let devices = s[2];
+        let objects = s[3];
+        let values = s[4];
+        if counts_fit(edition, drivers, devices, objects, values) {
+            return Head::Counted(
+                Counts {
+                    drivers: drivers,
+                    devices: devices,
+                    objects: objects,
+                    values: values,
+                },
+                5,
+            );
+        }
+    }
+    counts_by_fields(s)
 }
 
 fn owner_least(class: u8) -> u8
@@ -129,13 +167,24 @@ fn object_by_fields(
     Reading::At(next)
 }
 
+// An owner's number is in the range of its class.
+fn is_owner(counts: Counts, c: u8, w: u8) -> bool
+    ensures { λ r. ⌜ r ≡ isOwner counts c w ⌝ }
+{
+    if c == EXTERNAL_CLASS {
+        return w == 0;
+    }
+    if c == DRIVER_CLASS {
+        return (1 <= w) & (w <= counts.drivers);
+    }
+    (1 <= w) & (w <= counts.devices)
+}
+
 // The bytes of an object's kind, class and owner are numbers in their ranges.
 fn is_object(counts: Counts, k: u8, c: u8, w: u8) -> bool
     ensures { λ r. ⌜ r ≡ isObject counts k c w ⌝ }
 {
-    let least = owner_least(c);
-    let most = owner_most(counts, c);
-    (1 <= k) & (k <= MOST_KIND) & (c <= MOST_CLASS) & (least <= w) & (w <= most)
+    (1 <= k) & (k <= MOST_KIND) & (c <= MOST_CLASS) & is_owner(counts, c, w)
 }
 
 // Object o: as most have it, in three bytes; else field by field, which finds what is refused.
