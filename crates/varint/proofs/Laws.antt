@@ -1,14 +1,14 @@
 -- Laws of `lead` at a place of a list, and of `numberAt` by cases.
 -- Assumes nothing.
-use Prim.Native.Nat.{ℕ, suc, _+_, _-_, _*_, _%_, _<_, _≤_}
+use Prim.Native.Nat.{ℕ, zero, suc, _+_, _-_, _*_, _%_, _<_, _≤_}
 use mathlib.Core.Path.{_≡_, refl, sym, _∙_}
 use native.Mathlib.Numerals.{add-one}
 use mathlib.Core.List.{List}
-use mathlib.Core.Bool.{Bool, true, false, _||_}
-use lib.Dec.{eqb}
+use mathlib.Core.Bool.{Bool, true, false, false≢true, _&&_, _||_}
+use lib.Dec.{eqb, leb}
 use lib.ListN.{length, getD, drop, drop-of-length-le, length-drop}
 use lib.Seq.{drop-cons, getD-drop}
-use borrow.Author.Tests.{lt-ltb, le-ltb, le-leb, lt-leb, eq-eqb, ne-eqb}
+use borrow.Author.Tests.{lt-ltb, le-ltb, le-leb, lt-leb, leb-true, eq-eqb, ne-eqb}
 use native.Mathlib.Omega.{arith}
 use Rattle.model.specs.declared.Fault.the-variants.{Cut, Form}
 use Rattle.model.specs.declared.Num.{Num}
@@ -16,6 +16,7 @@ use Rattle.model.specs.declared.Num.the-variants.{Got, Bad}
 use Rattle.model.specs.Number.{mostNumber, mostBytes, lead, valueOf, shortest, formed, formAt, headAt, numberAt}
 use Rattle.model.specs.NumberMeans.{numMeans, meantAt}
 use Rattle.model.proofs.NumberMeans.{means-at}
+use Rattle.varint.specs.Run.{runBytes, highRun, fullRun}
 
 module _ (s : List ℕ) (i : ℕ) where
   pub lead-last : i < length s → getD s i 0 < 128 → lead (drop i s) ≡ 0
@@ -29,6 +30,59 @@ module _ (s : List ℕ) (i : ℕ) where
   pub lead-end : length s ≤ i → lead (drop i s) ≡ 0
   unfolding lead
   lead-end h = rw (drop-of-length-le s h)
+
+-- runs of bytes that have 128 added
+module _ (s : List ℕ) (i : ℕ) where
+  pub run-start : true ≡ highRun s i 0
+  unfolding highRun
+  run-start = refl
+
+  pub run-more : (n : ℕ) (a b : Bool) → a ≡ highRun s i n → b ≡ leb 128 (getD s (i + n) 0)
+      → a && b ≡ highRun s i (n + 1)
+  unfolding highRun
+  run-more n a b p q = rw (add-one, p, q)
+
+  pub run-none : length s - i < runBytes → false ≡ fullRun s i
+  unfolding fullRun
+  run-none h = rw (lt-leb runBytes (length s - i) h)
+
+  pub run-end : (n : ℕ) (a : Bool) → runBytes ≤ length s - i → n ≤ runBytes → runBytes ≤ n → a ≡ highRun s i n
+      → a ≡ fullRun s i
+  unfolding fullRun
+  run-end n a h l m p =
+      let q : n ≡ runBytes = omega arith in
+      rw (le-leb runBytes (length s - i) h, p, q)
+
+  and-left : (a b : Bool) → a && b ≡ true → a ≡ true
+  and-left true b e = refl
+  and-left false b e = absurd (false≢true e)
+
+  and-right : (a b : Bool) → a && b ≡ true → b ≡ true
+  and-right true b e = e
+  and-right false b e = absurd (false≢true e)
+
+  run-lead : (n : ℕ) → i + n ≤ length s → highRun s i n ≡ true → i + lead (drop i s) ≡ i + n + lead (drop (i + n) s)
+  unfolding highRun
+  run-lead zero h e =
+      let q : i + 0 ≡ i = omega arith in
+      rw q
+  run-lead (suc n) h e =
+      let q : i + suc n ≡ suc (i + n) = omega arith in
+      let b = leb-true 128 (getD s (i + n) 0) (and-right (highRun s i n) (leb 128 (getD s (i + n) 0)) e) in
+      let t = run-lead n (omega arith) (and-left (highRun s i n) (leb 128 (getD s (i + n) 0)) e) in
+      rw q (omega (arith, t, lead-more s (i + n) (omega arith) b))
+
+  pub run-room : i < length s → fullRun s i ≡ true → i + runBytes ≤ length s
+  unfolding fullRun
+  run-room l h =
+      let a = and-left (leb runBytes (length s - i)) (highRun s i runBytes) h in
+      omega (arith, leb-true runBytes (length s - i) a)
+
+  pub run-passed : i < length s → fullRun s i ≡ true
+      → i + runBytes + lead (drop (i + runBytes) s) ≡ i + lead (drop i s)
+  unfolding fullRun
+  run-passed l h =
+      sym (run-lead runBytes (run-room l h) (and-right (leb runBytes (length s - i)) (highRun s i runBytes) h))
 
 or-true : (b : Bool) → b || true ≡ true
 or-true true = refl

@@ -1,9 +1,10 @@
 // The number reader (document 01, 'Line file'; questions 1 and 2): canonical LEB128 in at most three bytes.
 ghost use mathlib.Core.Path.{_≡_};
-ghost use Prim.Native.Nat.{_+_, _<_};
+ghost use Prim.Native.Nat.{_+_, _<_, _≤_};
 ghost use lib.ListN.{length, drop};
 ghost use Rattle.model.specs.Number.{mostBytes, lead, valueOf, numberAt};
 ghost use Rattle.model.specs.NumberMeans.{numMeans, meantAt};
+ghost use Rattle.varint.specs.Run.{fullRun};
 use model::Fault;
 use model::MOST_BYTES;
 use model::MOST_NUMBER;
@@ -15,11 +16,47 @@ fn wide(b: u8) -> usize
     b as usize
 }
 
-// The place of the last byte of the number at `at`: the first byte below 128. At or past the end where there is none.
-fn last(s: &[u8], at: usize) -> usize
-    ensures { λ r. ⌜ r ≡ at + lead (drop at (now (s .entry))) ⌝ }
+// How many bytes of a long run are tested at once.
+const RUN_BYTES: usize = 32;
+
+// A whole run of bytes from `at` on, none of them below 128. It has no way out in its midst, so that the bytes are
+// tested side by side.
+fn is_run(s: &[u8], at: usize) -> bool
+    requires { ⌜ at ≤ length (now s) ⌝ }
+    ensures { λ r. ⌜ r ≡ fullRun (now (s .entry)) at ⌝ }
+{
+    if s.len() - at < RUN_BYTES {
+        return false;
+    }
+    let mut all = true;
+    let mut i: usize = 0;
+    while i < RUN_BYTES {
+        let high = 128 <= s[at + i];
+        all = all & high;
+        i += 1;
+    }
+    all
+}
+
+// A place from which the last byte is the same as from `at`: after the runs.
+fn pass_runs(s: &[u8], at: usize) -> usize
+    ensures { λ r. ⌜ r + lead (drop r (now (s .entry))) ≡ at + lead (drop at (now (s .entry))) ⌝ }
 {
     let mut i = at;
+    while i < s.len() {
+        if !is_run(s, i) {
+            return i;
+        }
+        i += RUN_BYTES;
+    }
+    i
+}
+
+// The place of the last byte of the number at `at`: the first byte below 128. At or past the end where there is none.
+fn far_last(s: &[u8], at: usize) -> usize
+    ensures { λ r. ⌜ r ≡ at + lead (drop at (now (s .entry))) ⌝ }
+{
+    let mut i = pass_runs(s, at);
     while i < s.len() {
         if s[i] < 128 {
             return i;
@@ -27,6 +64,25 @@ fn last(s: &[u8], at: usize) -> usize
         i += 1;
     }
     i
+}
+
+// The same. It is near in every number that is right.
+fn last(s: &[u8], at: usize) -> usize
+    ensures { λ r. ⌜ r ≡ at + lead (drop at (now (s .entry))) ⌝ }
+{
+    let mut i = at;
+    let mut n: usize = 0;
+    while n < MOST_BYTES {
+        if s.len() <= i {
+            return i;
+        }
+        if s[i] < 128 {
+            return i;
+        }
+        i += 1;
+        n += 1;
+    }
+    far_last(s, i)
 }
 
 // The value of the number at `at` that has n bytes before its last.

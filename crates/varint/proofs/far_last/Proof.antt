@@ -1,5 +1,5 @@
--- `varint::last` meets its contract. The invariant: the last byte's place counted from `i` is that counted from `at`.
--- Assumes nothing.
+-- `varint::far_last` meets its contract. The invariant: the last byte's place counted from `i` is that counted from
+-- `at`. Assumes nothing.
 use Prim.Native.Nat.{_+_, _-_}
 use mathlib.Core.Path.{_≡_}
 use native.Mathlib.Omega.{arith}
@@ -8,14 +8,17 @@ use borrow.Author.Needs.{needs}
 use lib.ListN.{length, drop}
 use Rattle.model.specs.Number.{lead}
 use Rattle.varint.proofs.Laws.{lead-last, lead-more, lead-end}
-use Rattle.varint.proofs.last.Statement.{statement}
-use Rattle.varint.proofs.last.Tie as tie
+use Rattle.varint.proofs.far_last.Statement.{statement}
+use Rattle.varint.proofs.far_last.Tie as tie
 
 abbrev Inv-loop : tie.InvT-loop
 Inv-loop s at i₀ i = i + lead (drop i s) ≡ at + lead (drop at s)
 
 abbrev μ-loop : tie.MeasureT-loop
 μ-loop s at i₀ i = length s - i
+
+pass-runs-requires : tie.Need-pass-runs-requires Inv-loop μ-loop
+pass-runs-requires c κs = search needs
 
 loop-holds : tie.Need-loop-holds Inv-loop μ-loop
 loop-holds c = search needs
@@ -28,7 +31,7 @@ returns c =
     let i = c .before .before .before .loop .i in
     omega (
       arith,
-      lead-last (c .before .before .before .before .args .s .now) i (omega arith) (c .if1 .taken),
+      lead-last (c .before .before .before .before .before .before .args .s .now) i (omega arith) (c .if1 .taken),
       c .before .before .before .loop .inv,
     )
 
@@ -41,19 +44,24 @@ loop-less c = search needs
 loop-again : tie.Need-loop-again Inv-loop μ-loop
 loop-again c =
     let i = c .before .before .before .loop .i in
-    let s = c .before .before .before .before .args .s .now in
+    let s = c .before .before .before .before .before .before .args .s .now in
     rw add-one (omega (arith, lead-more s i (omega arith) (c .if1 .left), c .before .before .before .loop .inv))
 
 returns-2 : tie.Need-returns-2 Inv-loop μ-loop
 returns-2 c =
-    omega (arith, lead-end (c .before .before .args .s .now) (c .before .loop .i) (omega arith), c .before .loop .inv)
+    omega (
+      arith,
+      lead-end (c .before .before .before .before .args .s .now) (c .before .loop .i) (omega arith),
+      c .before .loop .inv,
+    )
 
-pub last-spec : {M : Type 1} → statement M
-last-spec =
+pub far-last-spec : {M : Type 1} → statement M
+far-last-spec =
     tie.close
     (tie.spec
     Inv-loop
     μ-loop
+    pass-runs-requires
     loop-holds
     shared-slice-read-if1
     returns
