@@ -1,4 +1,4 @@
--- Question 18: the values that a device reads with today's values, and what is described by their entries.
+-- Question 18: the values that a device reads with today's values.
 use Prim.Native.Nat.{ℕ, _+_, _-_, _*_, _^_, _≤_, _<_}
 use native.Mathlib.Omega.{arith}
 use native.Mathlib.Decide.{ℕ-discrete}
@@ -28,11 +28,6 @@ use Rattle.closure.specs.Today.{
   OpenedWord,
   OpenedBelow,
   OpenedWords,
-  Today,
-  gives,
-  describes,
-  wanted,
-  isDescribed,
 }
 use Rattle.closure.proofs.Digits.{
   bit-zero,
@@ -150,6 +145,12 @@ module _ (kind count table : List ℕ) (b : State) (v : ℕ) where
             (subst (λ (n : ℕ). starts kind b (entryAt table (entryPlace v n) .object) ≡ true) q s))))
             (λ q. or-left x y _ (f .all n l (omega (arith, h, q)) o s));
       }
+
+-- the word x has the values that device c reads
+pub record Today (m : Scene) (c x : ℕ) : Type 0 where
+  pub right : (v : ℕ) → bit x v ≡ 1 → Reading m c v
+  pub all : (o v : ℕ) → Reads (m .config) (m .storing) (m .state) c o v
+      → (v ≤ m .config .counts .values) × (bit x v ≡ 1)
 
 -- values that device c reads are in the word s; the entries of those in d are still to be followed
 pub record Seeing (m : Scene) (c s d : ℕ) : Type 0 where
@@ -317,51 +318,3 @@ today-less s d e n y hs he hn less wo =
     (room-of s (bitOr s n) hs (or-lt 64 s n hs hn) (or-grows s n)
     (λ q. wo .other (i .0) (i .1) (or-within n s (i .0) q (i .1))))
     (or-lt 64 e n he hn))
-
--- what is described
-module _ (config : Config) (b : State) (n : ℕ) (write : Bool) (w : ℕ) where
-  gives-wanted : (t : Bool) (e : Entry) → describes (config .objects .kind) n t w e ≡ wanted config n t w e
-  unfolding gives
-  gives-wanted true e = go (eqb (e .object) n) refl
-    where
-      fits : ℕ → Bool
-      fits o = not (eqb (kindOf config o) 1) || eqb (e .value) w
-
-      alone : (t : Bool) → t || false ≡ t
-      alone true = refl
-      alone false = refl
-
-      go : (s : Bool) → eqb (e .object) n ≡ s → s && (writes e && fits (e .object) || false) ≡ s && writes e && fits n
-      go true q = alone (writes e && fits (e .object)) ∙ ap (λ (o : ℕ). writes e && fits o) (eqb-true (e .object) n q)
-      go false q = refl
-  gives-wanted false e = refl
-
-  abbrev scene : Scene
-  scene = record { config = config; storing = false; state = b }
-
-  module _ (x c : ℕ) (today : Today scene c x) where
-    -- an entry was found
-    pub described-found : countOf scene 0 ≡ 0 → (v j : ℕ) → bit x v ≡ 1 → In (countOf scene v) j
-        → describes (config .objects .kind) n write w (entryOf scene v j) ≡ true → true ≡ isDescribed scene c n write w
-    described-found none v j h there ok =
-        let r = today .right v h in
-        sym (described-exact config b c (wanted config n write w) .1 (
-          r .object,
-          v,
-          entryOf scene v j,
-          r .read,
-          entry-there scene none v j there,
-          sym (gives-wanted write (entryOf scene v j)) ∙ ok,
-        ))
-
-    -- no value that the device reads has one
-    pub described-not : ((v j : ℕ) → v ≤ config .counts .values → bit x v ≡ 1 → In (countOf scene v) j
-        → describes (config .objects .kind) n write w (entryOf scene v j) ≡ true → ⊥)
-        → false ≡ isDescribed scene c n write w
-    described-not none =
-        sym (not-true (isDescribed scene c n write w)
-        (λ h. let (o, v, e, r, l, k) = described-exact config b c (wanted config n write w) .0 h in
-        let (few, d) = today .all o v r in
-        let (j, low, lj, hj, is) = entry-place config v l in
-        none v j few d (record { low = lj; high = hj })
-        (subst (λ (e : Entry). describes (config .objects .kind) n write w e ≡ true) is (gives-wanted write e ∙ k))))

@@ -64,10 +64,10 @@ wider-set b i x h =
           (λ n e. or-left (getD b i 0) x n e) (λ j n e. e);
     }
 
-wider-none : {b : List ℕ} → Wider b b
+pub wider-none : {b : List ℕ} → Wider b b
 wider-none = record { kept = λ j n e. e }
 
-wider-then : {b b′ b″ : List ℕ} → Wider b b′ → Wider b′ b″ → Wider b b″
+pub wider-then : {b b′ b″ : List ℕ} → Wider b b′ → Wider b′ b″ → Wider b b″
 wider-then f g = record { kept = λ j n e. g .kept j n (f .kept j n e) }
 
 -- no digit of a word of zeros is set

@@ -8,3 +8,4 @@ pub mod Starting
 pub mod Finding
 pub mod Answering
 pub mod Describing
+pub mod Offering

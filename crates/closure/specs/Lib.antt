@@ -4,3 +4,4 @@ pub mod Scene
 pub mod Words
 pub mod Search
 pub mod Today
+pub mod Offers

@@ -1,20 +1,17 @@
--- Question 18: the values that a device reads with today's values, as a word, and the entries among them that describe
--- a transfer.
+-- Question 18: the values that a device reads with today's values, as a word, and the entry that a transfer wants.
 use Prim.Native.Nat.{ℕ, _≤_}
 use mathlib.Core.Path.{_≡_}
-use mathlib.Core.Bool.{Bool, true, false, not, _&&_, _||_}
+use mathlib.Core.Bool.{Bool, true, false}
 use mathlib.Core.List.{List}
 use lib.ListN.{getD}
-use lib.Dec.{eqb}
-use Rattle.model.specs.Config.{Entry, reads, writes, entryPlace, entryAt}
+use Rattle.model.specs.Config.{Entry, entryPlace, entryAt}
 use Rattle.model.specs.State.{State, held}
-use Rattle.model.specs.Closure.{Reads, described}
+use Rattle.model.specs.Closure.{described}
 use Rattle.model.specs.Questions.{readEntry, writeEntry}
 use Rattle.model.specs.declared.Config.{Config}
 use Rattle.closure.specs.Digits.{bit}
 use Rattle.closure.specs.Rules.{opens, starts, owned}
 use Rattle.closure.specs.Scene.{Scene, In}
-use Rattle.closure.specs.Words.{Reading}
 
 -- the word x has the value that object o holds if it is an active descriptor, and no other
 pub record HeldWord (kind : List ℕ) (b : State) (o x : ℕ) : Type 0 where
@@ -52,20 +49,6 @@ pub record OpenedBelow (kind count table : List ℕ) (b : State) (v i x : ℕ) :
 abbrev pub OpenedWords : List ℕ → List ℕ → List ℕ → State → ℕ → ℕ → Type 0
 OpenedWords kind count table b v x = OpenedBelow kind count table b v (getD count v 0) x
 
--- the word x has the values that device c reads
-pub record Today (m : Scene) (c x : ℕ) : Type 0 where
-  pub right : (v : ℕ) → bit x v ≡ 1 → Reading m c v
-  pub all : (o v : ℕ) → Reads (m .config) (m .storing) (m .state) c o v
-      → (v ≤ m .config .counts .values) × (bit x v ≡ 1)
-
--- the entry is of the wanted mode, and for kind 1 with the wanted stored value
-unfoldable pub gives : ℕ → Bool → ℕ → Entry → Bool
-gives kind write w e = write && writes e && (not (eqb kind 1) || eqb (e .value) w) || not write && reads e
-
--- and names object n
-abbrev pub describes : List ℕ → ℕ → Bool → ℕ → Entry → Bool
-describes kind n write w e = eqb (e .object) n && gives (getD kind (e .object) 0) write w e
-
 -- an entry for a write to object n, for kind 1 with the stored value w; or for a read of it
 abbrev pub wanted : Config → ℕ → Bool → ℕ → Entry → Bool
 wanted config n true w = writeEntry config n w
@@ -74,15 +57,3 @@ wanted config n false w = readEntry n
 -- device c has such an entry with today's values
 abbrev pub isDescribed : Scene → ℕ → ℕ → Bool → ℕ → Bool
 isDescribed m c n write w = described (m .config) (m .state) c (wanted (m .config) n write w)
-
--- value v has an entry that passes; or if r is false, it has none
-pub record Offers (count table : List ℕ) (v : ℕ) (ok : Entry → Bool) (r : Bool) : Type 0 where
-  pub some : r ≡ true → (j : ℕ) × In (getD count v 0) j × (ok (entryAt table (entryPlace v j)) ≡ true)
-  pub none : r ≡ false → (j : ℕ) → In (getD count v 0) j → ok (entryAt table (entryPlace v j)) ≡ true → ⊥
-
--- a value of the word x, one up to n, has an entry that passes; or if r is false, none has
-pub record Offered (n : ℕ) (count table : List ℕ) (x : ℕ) (ok : Entry → Bool) (r : Bool) : Type 0 where
-  pub some : r ≡ true → (v : ℕ) × (v ≤ n) × (bit x v ≡ 1) × (j : ℕ) × In (getD count v 0) j
-      × (ok (entryAt table (entryPlace v j)) ≡ true)
-  pub none : r ≡ false → (v j : ℕ) → v ≤ n → bit x v ≡ 1 → In (getD count v 0) j
-      → ok (entryAt table (entryPlace v j)) ≡ true → ⊥

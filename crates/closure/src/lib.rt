@@ -3,9 +3,9 @@
 pub mod answer;
 mod area;
 mod begin;
-pub mod described;
 mod fine;
 mod grow;
+pub mod offers;
 mod rules;
 pub mod search;
 mod settle;

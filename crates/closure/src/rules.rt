@@ -6,24 +6,16 @@ ghost use lib.ListN.{length};
 ghost use Rattle.model.specs.Config.{mostDevices, mostMode, mostObjects};
 ghost use Rattle.model.specs.State.{areaLength, view};
 ghost use Rattle.closure.specs.Scene.{In};
-ghost use Rattle.closure.specs.Rules.{holdsValue, readsMode, writesMode, starts, owned};
+ghost use Rattle.closure.specs.Rules.{readsMode, writesMode, owned};
 use model::DEVICE_CLASS;
 use model::HARDCODED_KIND;
 use model::MOST_ENTRIES;
 use model::OBJECT_SLOTS;
 use model::READ_MODE;
-use model::TRANSFER_KIND;
 use model::WRITE_MODE;
 
 // How many entries a value has room for.
 pub const ENTRY_ROOM: usize = MOST_ENTRIES as usize;
-
-// An object of this kind is a descriptor.
-fn holds_value(kind: u8) -> bool
-    ensures { λ r. ⌜ r ≡ holdsValue kind ⌝ }
-{
-    (kind == TRANSFER_KIND) | (kind == HARDCODED_KIND)
-}
 
 // An entry of this mode, one of the three, reads: it does not write alone.
 pub fn is_reading(mode: u8) -> bool
@@ -47,16 +39,6 @@ pub fn wide(x: u8) -> usize
     ensures { λ r. ⌜ r < 256 ⌝ }
 {
     x as usize
-}
-
-// Object o is an active descriptor.
-pub fn is_live(kind: &[u8; OBJECT_SLOTS], area: &[u8], room: usize, o: usize) -> bool
-    requires { ⌜ length (now area) ≡ areaLength room ⌝ }
-    requires { ⌜ In room o ⌝ }
-    requires { ⌜ o ≤ mostObjects ⌝ }
-    ensures { λ r. ⌜ r ≡ starts (now (kind .entry)) (view room (now (area .entry))) o ⌝ }
-{
-    holds_value(kind[o]) & (area::object_in(area, room, o) != 0)
 }
 
 // Device c is active, and object o is its hardcoded descriptor.

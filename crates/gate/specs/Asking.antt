@@ -14,7 +14,6 @@ use Rattle.model.specs.declared.Family.{Family}
 use Rattle.model.specs.declared.Family.the-variants.{Write, Copy, Create, Destroy, Activate, Deactivate}
 use Rattle.model.specs.declared.Actor.{Actor}
 use Rattle.model.specs.declared.Actor.the-variants.{Driver, Device, External}
-use Rattle.model.specs.declared.Counts.{Counts}
 use Rattle.model.specs.declared.Config.{Config}
 use Rattle.model.specs.declared.Operation.{Operation}
 use Rattle.closure.specs.Scene.{Scene, sceneOf}
@@ -41,10 +40,11 @@ byDevice Driver = false
 byDevice Device = true
 byDevice External = false
 
--- question 18: the scene m with the columns and the state by which transfers are looked up; write entries do not count
-abbrev pub todayOf : Scene → Counts → List ℕ → List ℕ → List ℕ → State → Scene
-todayOf m n kind count entries b =
-    sceneOf (m .config .devices) n kind (m .config .objects .class) (m .config .objects .owner) count entries false b
+-- question 18: the scene m with the kinds and the state by which transfers are looked up; write entries do not count
+abbrev pub todayOf : Scene → List ℕ → State → Scene
+todayOf m kind b =
+    sceneOf (m .config .devices) (m .config .counts) kind (m .config .objects .class) (m .config .objects .owner)
+    (m .config .values .count) (m .config .values .entries) false b
 
 -- question 18, of an item: object o and second number v
 unfoldable pub pairDescribed : Config → State → ℕ → ℕ → ℕ → Bool

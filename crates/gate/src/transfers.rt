@@ -5,21 +5,18 @@ ghost use lib.ListN.{length};
 ghost use Rattle.model.specs.State.{areaLength, view};
 ghost use Rattle.model.specs.Operation.{mostItems};
 ghost use Rattle.model.specs.Questions.{q18};
-ghost use Rattle.closure.specs.Scene.{Scene, ValuesOk};
-ghost use Rattle.closure.specs.Today.{Today};
+ghost use Rattle.closure.specs.Scene.{Scene};
+ghost use Rattle.closure.specs.Offers.{Offered};
 ghost use Rattle.questions.specs.Items.{upTo};
 ghost use Rattle.gate.specs.Ready.{Ready, Complete};
 ghost use Rattle.gate.specs.Asking.{stores, byDevice, todayOf, pairDescribed, transferOf, itemDescribed};
-use closure::described::is_described;
-use closure::today::today;
+use closure::offers::is_described;
+use closure::today::offered;
 use model::Actor;
 use model::Config;
-use model::Counts;
-use model::ENTRY_SLOTS;
 use model::Family;
 use model::OBJECT_SLOTS;
 use model::Operation;
-use model::VALUE_SLOTS;
 use questions::lookups::number_of;
 use state::look::value;
 
@@ -49,70 +46,51 @@ pub fn is_by_device(a: Actor) -> bool
 }
 
 // A pair of a copy: the read of its source and, unless the destination is 0, the write of what the source holds.
-fn pair_described<'a>(
-    counts: Counts,
-    kind: &'a [u8; OBJECT_SLOTS],
-    count: &'a [u8; VALUE_SLOTS],
-    entries: &'a [u8; ENTRY_SLOTS],
+fn pair_described(
+    kind: &[u8; OBJECT_SLOTS],
     area: &[u8],
     room: usize,
-    values: u64,
+    table: &[u64; OBJECT_SLOTS],
     source: usize,
     destination: usize,
 ) -> bool
-    requires { ⌜ ValuesOk counts (now count) (now entries) ⌝ }
     requires { ⌜ length (now area) ≡ areaLength room ⌝ }
     ensures { λ r.
         ⌜ ((m : Scene) (c : ℕ)
-        → Today (todayOf m counts (now (kind .entry)) (now (count .entry)) (now (entries .entry))
-        (view room (now (area .entry)))) c values
-        → r ≡ pairDescribed (todayOf m counts (now (kind .entry)) (now (count .entry)) (now (entries .entry))
-        (view room (now (area .entry))) .config) (view room (now (area .entry))) c source destination) ⌝ }
+        → Offered (todayOf m (now (kind .entry)) (view room (now (area .entry)))) c (now (table .entry))
+        → r ≡ pairDescribed (todayOf m (now (kind .entry)) (view room (now (area .entry))) .config)
+        (view room (now (area .entry))) c source destination) ⌝ }
 {
-    if !is_described(counts, kind, count, entries, values, source, false, 0) {
+    if !is_described(kind, table, source, false, 0) {
         return false;
     }
     if destination == 0 {
         return true;
     }
     let v = value(area, room, source);
-    is_described(
-        counts,
-        kind,
-        count,
-        entries,
-        values,
-        destination,
-        true,
-        v as usize,
-    )
+    is_described(kind, table, destination, true, v as usize)
 }
 
 // The transfers of an item with object o and second number v.
-fn item_described<'a>(
-    counts: Counts,
-    kind: &'a [u8; OBJECT_SLOTS],
-    count: &'a [u8; VALUE_SLOTS],
-    entries: &'a [u8; ENTRY_SLOTS],
+fn item_described(
+    kind: &[u8; OBJECT_SLOTS],
     area: &[u8],
     room: usize,
-    values: u64,
+    table: &[u64; OBJECT_SLOTS],
     f: Family,
     o: usize,
     v: usize,
 ) -> bool
-    requires { ⌜ ValuesOk counts (now count) (now entries) ⌝ }
     requires { ⌜ length (now area) ≡ areaLength room ⌝ }
     ensures { λ r.
         ⌜ ((m : Scene) (c : ℕ)
-        → Today (todayOf m counts (now (kind .entry)) (now (count .entry)) (now (entries .entry))
-        (view room (now (area .entry)))) c values
-        → r ≡ transferOf (todayOf m counts (now (kind .entry)) (now (count .entry)) (now (entries .entry))
-        (view room (now (area .entry))) .config) (view room (now (area .entry))) c f o v) ⌝ }
+        → Offered (todayOf m (now (kind .entry)) (view room (now (area .entry)))) c (now (table .entry))
+        → r ≡ transferOf (todayOf m (now (kind .entry)) (view room (now (area .entry))) .config)
+        (view room (now (area .entry))) c f o v) ⌝ }
 {
     match f {
-        Family::Write => is_described(counts, kind, count, entries, values, o, true, v),
-        Family::Copy => pair_described(counts, kind, count, entries, area, room, values, o, v),
+        Family::Write => is_described(kind, table, o, true, v),
+        Family::Copy => pair_described(kind, area, room, table, o, v),
         Family::Create => true,
         Family::Destroy => true,
         Family::Activate => true,
@@ -120,7 +98,7 @@ fn item_described<'a>(
     }
 }
 
-// Those of every item.
+// Those of every item: what the device's entries offer is put down once, and each transfer is looked up in it.
 fn items_described(config: Config, area: &[u8], room: usize, op: Operation, f: Family) -> bool
     requires { ⌜ Ready config room (now area) ⌝ }
     requires { ⌜ op .count ≤ mostItems ⌝ }
@@ -129,7 +107,7 @@ fn items_described(config: Config, area: &[u8], room: usize, op: Operation, f: F
     let counts = config.counts;
     let t = config.objects;
     let w = config.values;
-    let values = today(
+    let table = offered(
         counts,
         &t.kind,
         &t.class,
@@ -145,18 +123,7 @@ fn items_described(config: Config, area: &[u8], room: usize, op: Operation, f: F
     while i < n {
         let o = number_of(&op.objects, i);
         let v = number_of(&op.seconds, i);
-        if !item_described(
-            counts,
-            &t.kind,
-            &w.count,
-            &w.entries,
-            area,
-            room,
-            values,
-            f,
-            o,
-            v,
-        ) {
+        if !item_described(&t.kind, area, room, &table, f, o, v) {
             return false;
         }
         i += 1;

@@ -1,53 +1,51 @@
--- `closure::today::held_word` meets its contract: the value that is held exists, and is the only digit. Assumes
--- nothing.
-use borrow.Author.Tests.{not-true, not-false}
-use mathlib.Core.Path.{sym, _∙_}
-use native.Mathlib.Omega.{arith}
+-- `closure::today::held_word` meets its contract: the kind says whether there is a value. Assumes nothing.
+use mathlib.Core.Logic.{inl, inr}
 use denote.Ref.{now}
 use Rattle.model.specs.State.{view}
-use Rattle.closure.proofs.Ranges.{starts-holds}
-use Rattle.closure.proofs.Describing.{held-none, held-one}
+use Rattle.model.proofs.Lists.{not-true}
+use Rattle.closure.proofs.Starting.{starts-never, holds-kind}
+use Rattle.closure.proofs.Describing.{held-none}
 use borrow.Author.Needs.{needs}
 use Rattle.closure.proofs.today.held_word.Statement.{statement}
 use Rattle.closure.proofs.today.held_word.Tie as tie
 
-is-live-requires : tie.Need-is-live-requires
-is-live-requires c κs = search needs
+element-copy-out-if1 : tie.Need-element-copy-out-if1
+element-copy-out-if1 c = search needs
+
+active-word-requires : tie.Need-active-word-requires
+active-word-requires c κs =
+    let a = c .before .before .before in
+    (a .pre .0, (a .pre .1, holds-kind _ (inl (c .if1 .taken))))
 
 returns : tie.Need-returns
-returns c =
-    let a = c .before .before .before in
-    held-none (now (a .args .kind)) (view (a .args .room) (now (a .args .area))) (a .args .o)
-    (sym (c .before .is-live .ensures) ∙ not-true _ (c .if1 .taken))
+returns c = c .active-word .ensures
 
-held-by-requires : tie.Need-held-by-requires
-held-by-requires c κs = search needs
+element-copy-out-if2 : tie.Need-element-copy-out-if2
+element-copy-out-if2 c = search needs
 
-wide-requires : tie.Need-wide-requires
-wide-requires c κs = search needs
-
-power-requires : tie.Need-power-requires
-power-requires c κs =
+active-word-requires-2 : tie.Need-active-word-requires-2
+active-word-requires-2 c κs =
     let a = c .before .before .before .before .before in
-    let s = starts-holds (now (a .args .kind)) (view (a .args .room) (now (a .args .area))) (a .args .o)
-    (sym (c .before .before .before .is-live .ensures) ∙ not-false _ (c .before .before .if1 .left)) in
-    omega (
-      arith,
-      c .wide .ensures .0,
-      c .before .held-by .ensures,
-      a .pre .0 .held-known (a .args .o) (a .pre .1) s,
-      a .pre .0 .few-values,
-    )
+    (a .pre .0, (a .pre .1, holds-kind _ (inr (c .if2 .taken))))
 
 returns-2 : tie.Need-returns-2
-returns-2 c =
-    let a = c .before .before .before .before .before .before in
-    held-one (now (a .args .kind)) (view (a .args .room) (now (a .args .area))) (a .args .o) (c .before .wide .result)
-    (c .power .result)
-    (sym (c .before .before .before .before .is-live .ensures) ∙ not-false _ (c .before .before .before .if1 .left))
-    (c .before .wide .ensures .0 ∙ c .before .before .held-by .ensures) (c .power .ensures)
+returns-2 c = c .active-word2 .ensures
+
+returns-3 : tie.Need-returns-3
+returns-3 c =
+    let a = c .before .before .before .before .before in
+    held-none (now (a .args .kind)) (view (a .args .room) (now (a .args .area))) (a .args .o)
+    (not-true _ (starts-never (now (a .args .kind)) (view (a .args .room) (now (a .args .area))) (a .args .o)
+    (c .before .before .if1 .left) (c .if2 .left)))
 
 pub held-word-spec : {M : Type 1} → statement M
 held-word-spec =
     tie.close
-    (tie.spec is-live-requires returns held-by-requires wide-requires power-requires returns-2)
+    (tie.spec
+    element-copy-out-if1
+    active-word-requires
+    returns
+    element-copy-out-if2
+    active-word-requires-2
+    returns-2
+    returns-3)

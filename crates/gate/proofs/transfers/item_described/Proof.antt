@@ -34,9 +34,8 @@ enum-told-6 c = search needs
 returns : tie.Need-returns
 returns c =
     λ m k x. let a = c .before .before .before .before in
-    let s : Scene = todayOf m (a .args .counts) (a .args .kind .now) (a .args .count .now) (a .args .entries .now)
-    (view (a .args .room) (a .args .area .now)) in
-    Asking.item-write _ _ _ _ _ (c .before .enum-told .given .1) (c .is-described .ensures .0 s k x)
+    let s : Scene = todayOf m (a .args .kind .now) (view (a .args .room) (a .args .area .now)) in
+    Asking.item-write _ _ _ _ _ (c .before .enum-told .given .1) (c .is-described .ensures s k x)
 
 returns-2 : tie.Need-returns-2
 returns-2 c = λ m k x. Asking.item-copy _ _ _ _ _ (c .before .enum-told2 .given .1) (c .pair-described .ensures m k x)

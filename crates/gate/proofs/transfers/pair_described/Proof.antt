@@ -15,17 +15,15 @@ is-described-requires c κs = search needs
 returns : tie.Need-returns
 returns c =
     λ m k x. let a = c .before .before .before in
-    let s : Scene = todayOf m (a .args .counts) (a .args .kind .now) (a .args .count .now) (a .args .entries .now)
-    (view (a .args .room) (a .args .area .now)) in
-    Asking.pair-unread _ _ _ (a .args .source) (a .args .destination) (c .before .is-described .ensures .0 s k x)
+    let s : Scene = todayOf m (a .args .kind .now) (view (a .args .room) (a .args .area .now)) in
+    Asking.pair-unread _ _ _ (a .args .source) (a .args .destination) (c .before .is-described .ensures s k x)
     (not-true _ (c .if1 .taken))
 
 returns-2 : tie.Need-returns-2
 returns-2 c =
     λ m k x. let a = c .before .before .before .before in
-    let s : Scene = todayOf m (a .args .counts) (a .args .kind .now) (a .args .count .now) (a .args .entries .now)
-    (view (a .args .room) (a .args .area .now)) in
-    Asking.pair-read _ _ _ (a .args .source) (a .args .destination) (c .before .before .is-described .ensures .0 s k x)
+    let s : Scene = todayOf m (a .args .kind .now) (view (a .args .room) (a .args .area .now)) in
+    Asking.pair-read _ _ _ (a .args .source) (a .args .destination) (c .before .before .is-described .ensures s k x)
     (not-false _ (c .before .if1 .left)) (c .if2 .taken)
 
 value-requires : tie.Need-value-requires
@@ -40,11 +38,10 @@ is-described-requires-2 c κs = search needs
 returns-3 : tie.Need-returns-3
 returns-3 c =
     λ m k x. let c₁ = c .before .before .before in let a = c₁ .before .before .before in
-    let s : Scene = todayOf m (a .args .counts) (a .args .kind .now) (a .args .count .now) (a .args .entries .now)
-    (view (a .args .room) (a .args .area .now)) in
-    Asking.pair-written _ _ _ (a .args .source) (a .args .destination) (c₁ .before .is-described .ensures .0 s k x)
+    let s : Scene = todayOf m (a .args .kind .now) (view (a .args .room) (a .args .area .now)) in
+    Asking.pair-written _ _ _ (a .args .source) (a .args .destination) (c₁ .before .is-described .ensures s k x)
     (not-false _ (c₁ .if1 .left)) (c .before .before .if2 .left) (c .before .value .ensures)
-    (c .is-described2 .ensures .0 s k x)
+    (c .is-described2 .ensures s k x)
 
 pub pair-described-spec : {M : Type 1} → statement M
 pair-described-spec =
