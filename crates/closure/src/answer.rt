@@ -41,7 +41,7 @@ fn answer<'a>(
         (now (entries .entry)) true (view room (now (area .entry)))) (λ c e. bad c (e .object)) r) ⌝ }
 {
     let mut known = [0u64; OBJECT_SLOTS];
-    let mut reach = [0u64; VALUE_SLOTS];
+    let mut readers = [0u64; VALUE_SLOTS];
     let mut done = [0u64; VALUE_SLOTS];
     let todo = begin(
         counts,
@@ -51,7 +51,7 @@ fn answer<'a>(
         area,
         room,
         &mut known,
-        &mut reach,
+        &mut readers,
     );
     let stop = settle(
         counts,
@@ -60,7 +60,7 @@ fn answer<'a>(
         entries,
         fine,
         &mut known,
-        &mut reach,
+        &mut readers,
         &mut done,
         todo,
     );

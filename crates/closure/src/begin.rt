@@ -92,17 +92,17 @@ fn first<'a>(
 }
 
 // The devices of the word x read its values.
-fn seed(reach: &mut [u64; VALUE_SLOTS], todo: u64, x: u64) -> u64
-    requires { ⌜ length (now reach) ≡ valueSlots ⌝ }
+fn seed(readers: &mut [u64; VALUE_SLOTS], todo: u64, x: u64) -> u64
+    requires { ⌜ length (now readers) ≡ valueSlots ⌝ }
     ensures { λ d.
-        ⌜ Gave (λ u. bit x (u + mostDevices) ≡ 1) (x % 2 ^ mostDevices) (now (reach .entry)) (now (reach .exit)) todo
-        d ⌝ }
+        ⌜ Gave (λ u. bit x (u + mostDevices) ≡ 1) (x % 2 ^ mostDevices) (now (readers .entry)) (now (readers .exit))
+        todo d ⌝ }
 {
     let r = x % DEVICE_WORDS;
     if r == 0 {
         return todo;
     }
-    spread::spread(reach, todo, x, r)
+    spread::spread(readers, todo, x, r)
 }
 
 // The words of all descriptors before any step, into words that are 0: the values with something to do.
@@ -114,17 +114,17 @@ pub fn begin<'a>(
     area: &[u8],
     room: usize,
     known: &mut [u64; OBJECT_SLOTS],
-    reach: &mut [u64; VALUE_SLOTS],
+    readers: &mut [u64; VALUE_SLOTS],
 ) -> u64
     requires { ⌜ OwnersOk counts (now class) (now owner) ⌝ }
     requires { ⌜ AreaOk counts (now kind) (now area) room ⌝ }
     requires { ⌜ now known ≡ replicate objectSlots 0 ⌝ }
-    requires { ⌜ now reach ≡ replicate valueSlots 0 ⌝ }
+    requires { ⌜ now readers ≡ replicate valueSlots 0 ⌝ }
     ensures { λ d. ⌜ length (now (known .exit)) ≡ objectSlots ⌝ }
-    ensures { λ d. ⌜ length (now (reach .exit)) ≡ valueSlots ⌝ }
+    ensures { λ d. ⌜ length (now (readers .exit)) ≡ valueSlots ⌝ }
     ensures { λ d.
         ⌜ ((m : Scene) → Seeded (starting m counts (now (kind .entry)) (now (class .entry)) (now (owner .entry))
-        (view room (now (area .entry)))) (now (known .exit)) (now (reach .exit)) d) ⌝ }
+        (view room (now (area .entry)))) (now (known .exit)) (now (readers .exit)) d) ⌝ }
 {
     let last = counts.objects as usize;
     let mut d = 0;
@@ -132,7 +132,7 @@ pub fn begin<'a>(
     while o <= last {
         let x = first(counts, kind, class, owner, area, room, o);
         known[o] = x;
-        d = seed(reach, d, x);
+        d = seed(readers, d, x);
         o += 1;
     }
     d

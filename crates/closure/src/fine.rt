@@ -1,6 +1,7 @@
 // Which devices may name an object: a word for each object.
 use crate::area;
 use crate::rules;
+use crate::spread::DEVICE_WORDS;
 use crate::words;
 ghost use mathlib.Core.Path.{_≡_};
 ghost use Prim.Native.Nat.{ℕ, _+_, _≤_};
@@ -19,7 +20,7 @@ use model::OBJECT_SLOTS;
 const BYTES: usize = 256;
 
 // The word of all devices.
-const ALL_DEVICES: u64 = 65535;
+const ALL_DEVICES: u64 = DEVICE_WORDS - 1;
 
 // The devices of each partition.
 fn parts(area: &[u8], room: usize, devices: u8) -> [u64; BYTES]

@@ -33,17 +33,17 @@ fn apply_entry<'a>(
     kind: &'a [u8; OBJECT_SLOTS],
     entries: &'a [u8; ENTRY_SLOTS],
     known: &mut [u64; OBJECT_SLOTS],
-    reach: &mut [u64; VALUE_SLOTS],
+    readers: &mut [u64; VALUE_SLOTS],
     todo: u64,
     r: u64,
     at: usize,
 ) -> u64
     requires { ⌜ EntryOk (now entries) at ⌝ }
     requires { ⌜ length (now known) ≡ objectSlots ⌝ }
-    requires { ⌜ length (now reach) ≡ valueSlots ⌝ }
+    requires { ⌜ length (now readers) ≡ valueSlots ⌝ }
     requires { ⌜ Low r ⌝ }
     ensures { λ d.
-        ⌜ Grew (now (known .entry)) (now (known .exit)) (now (reach .entry)) (now (reach .exit)) todo d ⌝ }
+        ⌜ Grew (now (known .entry)) (now (known .exit)) (now (readers .entry)) (now (readers .exit)) todo d ⌝ }
     ensures { λ d.
         ⌜ Followed (now (kind .entry)) (entryAt (now (entries .entry)) at) r (now (known .entry))
         (now (known .exit)) ⌝ }
@@ -52,12 +52,12 @@ fn apply_entry<'a>(
     let k = kind[o];
     let mode = entries[at + 1];
     if k == TRANSFER_KIND {
-        let d = spread::admit(known, reach, todo, o, r, rules::is_reading(mode));
+        let d = spread::admit(known, readers, todo, o, r, rules::is_reading(mode));
         let w = entries[at + 2] as usize;
-        return spread::collect(known, reach, d, o, w, rules::is_writing(mode));
+        return spread::collect(known, readers, d, o, w, rules::is_writing(mode));
     }
     if k == HARDCODED_KIND {
-        return spread::admit(known, reach, todo, o, r, rules::is_reading(mode));
+        return spread::admit(known, readers, todo, o, r, rules::is_reading(mode));
     }
     todo
 }
@@ -79,19 +79,19 @@ fn apply_entries<'a>(
     entries: &'a [u8; ENTRY_SLOTS],
     fine: &[u64; OBJECT_SLOTS],
     known: &mut [u64; OBJECT_SLOTS],
-    reach: &mut [u64; VALUE_SLOTS],
+    readers: &mut [u64; VALUE_SLOTS],
     todo: u64,
     r: u64,
     v: usize,
 ) -> Turn
     requires { ⌜ ValuesOk counts (now count) (now entries) ⌝ }
     requires { ⌜ length (now known) ≡ objectSlots ⌝ }
-    requires { ⌜ length (now reach) ≡ valueSlots ⌝ }
+    requires { ⌜ length (now readers) ≡ valueSlots ⌝ }
     requires { ⌜ v ≤ counts .values ⌝ }
     requires { ⌜ Low r ⌝ }
     requires { ⌜ (r ≡ 0 → ⊥) ⌝ }
     ensures { λ t.
-        ⌜ Grew (now (known .entry)) (now (known .exit)) (now (reach .entry)) (now (reach .exit)) todo (t .todo) ⌝ }
+        ⌜ Grew (now (known .entry)) (now (known .exit)) (now (readers .entry)) (now (readers .exit)) todo (t .todo) ⌝ }
     ensures { λ t.
         ⌜ ((m : Scene)
         → Each (following m counts (now (kind .entry)) (now (count .entry)) (now (entries .entry)) true) r v
@@ -122,7 +122,7 @@ fn apply_entries<'a>(
                 strange: s,
             };
         }
-        d = apply_entry(kind, entries, known, reach, d, r, at);
+        d = apply_entry(kind, entries, known, readers, d, r, at);
         at += ENTRY_BYTES;
     }
     Turn {
@@ -139,31 +139,31 @@ pub fn touch<'a>(
     entries: &'a [u8; ENTRY_SLOTS],
     fine: &[u64; OBJECT_SLOTS],
     known: &mut [u64; OBJECT_SLOTS],
-    reach: &mut [u64; VALUE_SLOTS],
+    readers: &mut [u64; VALUE_SLOTS],
     done: &mut [u64; VALUE_SLOTS],
     todo: u64,
     v: usize,
 ) -> Turn
     requires { ⌜ ValuesOk counts (now count) (now entries) ⌝ }
     requires { ⌜ length (now known) ≡ objectSlots ⌝ }
-    requires { ⌜ length (now reach) ≡ valueSlots ⌝ }
+    requires { ⌜ length (now readers) ≡ valueSlots ⌝ }
     requires { ⌜ length (now done) ≡ valueSlots ⌝ }
     requires { ⌜ v ≤ counts .values ⌝ }
     requires { ⌜ bit todo v ≡ 1 ⌝ }
     ensures { λ t. ⌜ length (now (known .exit)) ≡ objectSlots ⌝ }
-    ensures { λ t. ⌜ length (now (reach .exit)) ≡ valueSlots ⌝ }
+    ensures { λ t. ⌜ length (now (readers .exit)) ≡ valueSlots ⌝ }
     ensures { λ t. ⌜ length (now (done .exit)) ≡ valueSlots ⌝ }
     ensures { λ t.
         ⌜ ((m : Scene)
         → Going (following m counts (now (kind .entry)) (now (count .entry)) (now (entries .entry)) true)
-        (now (fine .entry)) (now (known .entry)) (now (reach .entry)) (now (done .entry)) todo
+        (now (fine .entry)) (now (known .entry)) (now (readers .entry)) (now (done .entry)) todo
         → t .strange ≡ 0
         → Going (following m counts (now (kind .entry)) (now (count .entry)) (now (entries .entry)) true)
-        (now (fine .entry)) (now (known .exit)) (now (reach .exit)) (now (done .exit)) (t .todo)) ⌝ }
+        (now (fine .entry)) (now (known .exit)) (now (readers .exit)) (now (done .exit)) (t .todo)) ⌝ }
     ensures { λ t.
         ⌜ ((m : Scene)
         → Going (following m counts (now (kind .entry)) (now (count .entry)) (now (entries .entry)) true)
-        (now (fine .entry)) (now (known .entry)) (now (reach .entry)) (now (done .entry)) todo
+        (now (fine .entry)) (now (known .entry)) (now (readers .entry)) (now (done .entry)) todo
         → (n : ℕ) → bit (t .strange) n ≡ 1
         → Suspected (following m counts (now (kind .entry)) (now (count .entry)) (now (entries .entry)) true)
         (now (fine .entry)) (now (known .exit)) n v) ⌝ }
@@ -173,14 +173,14 @@ pub fn touch<'a>(
 {
     let d = words::clear(todo, v);
     let old = done[v];
-    let r = words::without(reach[v], old) % DEVICE_WORDS;
+    let r = words::without(readers[v], old) % DEVICE_WORDS;
     if r == 0 {
         return Turn {
             todo: d,
             strange: 0,
         };
     }
-    let t = apply_entries(counts, kind, count, entries, fine, known, reach, d, r, v);
+    let t = apply_entries(counts, kind, count, entries, fine, known, readers, d, r, v);
     if t.strange != 0 {
         return t;
     }

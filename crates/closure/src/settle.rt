@@ -41,18 +41,18 @@ pub fn settle<'a>(
     entries: &'a [u8; ENTRY_SLOTS],
     fine: &[u64; OBJECT_SLOTS],
     known: &mut [u64; OBJECT_SLOTS],
-    reach: &mut [u64; VALUE_SLOTS],
+    readers: &mut [u64; VALUE_SLOTS],
     done: &mut [u64; VALUE_SLOTS],
     todo: u64,
 ) -> Stop
     requires { ⌜ ValuesOk counts (now count) (now entries) ⌝ }
     requires { ⌜ length (now known) ≡ objectSlots ⌝ }
-    requires { ⌜ length (now reach) ≡ valueSlots ⌝ }
+    requires { ⌜ length (now readers) ≡ valueSlots ⌝ }
     requires { ⌜ length (now done) ≡ valueSlots ⌝ }
     ensures { λ s.
         ⌜ ((m : Scene)
         → Going (following m counts (now (kind .entry)) (now (count .entry)) (now (entries .entry)) true)
-        (now (fine .entry)) (now (known .entry)) (now (reach .entry)) (now (done .entry)) todo
+        (now (fine .entry)) (now (known .entry)) (now (readers .entry)) (now (done .entry)) todo
         → s .strange ≡ 0
         → Ended (following m counts (now (kind .entry)) (now (count .entry)) (now (entries .entry)) true)
         (now (fine .entry)) (now (known .exit))) ⌝ }
@@ -60,7 +60,7 @@ pub fn settle<'a>(
     ensures { λ s.
         ⌜ ((m : Scene)
         → Going (following m counts (now (kind .entry)) (now (count .entry)) (now (entries .entry)) true)
-        (now (fine .entry)) (now (known .entry)) (now (reach .entry)) (now (done .entry)) todo
+        (now (fine .entry)) (now (known .entry)) (now (readers .entry)) (now (done .entry)) todo
         → (n : ℕ) → bit (s .strange) n ≡ 1
         → Suspected (following m counts (now (kind .entry)) (now (count .entry)) (now (entries .entry)) true)
         (now (fine .entry)) (now (known .exit)) n (s .value)) ⌝ }
@@ -76,7 +76,18 @@ pub fn settle<'a>(
                 value: 0,
             };
         }
-        let t = grow::touch(counts, kind, count, entries, fine, known, reach, done, d, v);
+        let t = grow::touch(
+            counts,
+            kind,
+            count,
+            entries,
+            fine,
+            known,
+            readers,
+            done,
+            d,
+            v,
+        );
         if t.strange != 0 {
             return Stop {
                 strange: t.strange,

@@ -1,7 +1,7 @@
 // Devices that come to read values.
 // known[o]: digit c - 1: device c reads descriptor o; digit v + 16: the pair of o with value v is collected.
-// reach[v]: digit c - 1: device c reads a pair with value v.
-// A word of values: what is still to be done. Digit v: a device in reach[v] may be new there.
+// readers[v]: digit c - 1: device c reads a pair with value v.
+// A word of values: what is still to be done. Digit v: a device in readers[v] may be new there.
 use crate::words;
 ghost use mathlib.Core.Path.{_≡_};
 ghost use Prim.Native.Nat.{_+_, _^_, _≤_};
@@ -18,34 +18,34 @@ use model::VALUE_SLOTS;
 pub const FIRST_VALUE: usize = MOST_DEVICES as usize;
 
 // One more than the largest word of devices.
-pub const DEVICE_WORDS: u64 = 65536;
+pub const DEVICE_WORDS: u64 = 1 << MOST_DEVICES;
 
 // The devices of r read a pair with value v: the values with something to do.
-pub fn give(reach: &mut [u64; VALUE_SLOTS], todo: u64, v: usize, r: u64) -> u64
-    requires { ⌜ length (now reach) ≡ valueSlots ⌝ }
+pub fn give(readers: &mut [u64; VALUE_SLOTS], todo: u64, v: usize, r: u64) -> u64
+    requires { ⌜ length (now readers) ≡ valueSlots ⌝ }
     requires { ⌜ v ≤ mostValues ⌝ }
-    ensures { λ d. ⌜ Gave (λ u. u ≡ v) r (now (reach .entry)) (now (reach .exit)) todo d ⌝ }
+    ensures { λ d. ⌜ Gave (λ u. u ≡ v) r (now (readers .entry)) (now (readers .exit)) todo d ⌝ }
 {
-    let old = reach[v];
+    let old = readers[v];
     let new = old | r;
     if new == old {
         return todo;
     }
-    reach[v] = new;
+    readers[v] = new;
     todo | words::power(v)
 }
 
 // The devices of r read the pairs with all values of the word x.
-pub fn spread(reach: &mut [u64; VALUE_SLOTS], todo: u64, x: u64, r: u64) -> u64
-    requires { ⌜ length (now reach) ≡ valueSlots ⌝ }
+pub fn spread(readers: &mut [u64; VALUE_SLOTS], todo: u64, x: u64, r: u64) -> u64
+    requires { ⌜ length (now readers) ≡ valueSlots ⌝ }
     ensures { λ d.
-        ⌜ Gave (λ u. bit x (u + mostDevices) ≡ 1) r (now (reach .entry)) (now (reach .exit)) todo d ⌝ }
+        ⌜ Gave (λ u. bit x (u + mostDevices) ≡ 1) r (now (readers .entry)) (now (readers .exit)) todo d ⌝ }
 {
     let mut d = todo;
     let mut q = x / DEVICE_WORDS;
     while q != 0 {
         let v = words::lowest(q);
-        d = give(reach, d, v, r);
+        d = give(readers, d, v, r);
         q = words::clear(q, v);
     }
     d
@@ -54,18 +54,18 @@ pub fn spread(reach: &mut [u64; VALUE_SLOTS], todo: u64, x: u64, r: u64) -> u64
 // If `reading`, the devices of r read descriptor o.
 pub fn admit(
     known: &mut [u64; OBJECT_SLOTS],
-    reach: &mut [u64; VALUE_SLOTS],
+    readers: &mut [u64; VALUE_SLOTS],
     todo: u64,
     o: usize,
     r: u64,
     reading: bool,
 ) -> u64
     requires { ⌜ length (now known) ≡ objectSlots ⌝ }
-    requires { ⌜ length (now reach) ≡ valueSlots ⌝ }
+    requires { ⌜ length (now readers) ≡ valueSlots ⌝ }
     requires { ⌜ o ≤ mostObjects ⌝ }
     requires { ⌜ Low r ⌝ }
     ensures { λ d.
-        ⌜ Grew (now (known .entry)) (now (known .exit)) (now (reach .entry)) (now (reach .exit)) todo d ⌝ }
+        ⌜ Grew (now (known .entry)) (now (known .exit)) (now (readers .entry)) (now (readers .exit)) todo d ⌝ }
     ensures { λ d. ⌜ Added reading o r (now (known .entry)) (now (known .exit)) ⌝ }
 {
     if !reading {
@@ -77,24 +77,24 @@ pub fn admit(
         return todo;
     }
     known[o] = y;
-    spread(reach, todo, x, r)
+    spread(readers, todo, x, r)
 }
 
 // If `writing`, the pair of descriptor o with value w is collected.
 pub fn collect(
     known: &mut [u64; OBJECT_SLOTS],
-    reach: &mut [u64; VALUE_SLOTS],
+    readers: &mut [u64; VALUE_SLOTS],
     todo: u64,
     o: usize,
     w: usize,
     writing: bool,
 ) -> u64
     requires { ⌜ length (now known) ≡ objectSlots ⌝ }
-    requires { ⌜ length (now reach) ≡ valueSlots ⌝ }
+    requires { ⌜ length (now readers) ≡ valueSlots ⌝ }
     requires { ⌜ o ≤ mostObjects ⌝ }
     requires { ⌜ w ≤ mostValues ⌝ }
     ensures { λ d.
-        ⌜ Grew (now (known .entry)) (now (known .exit)) (now (reach .entry)) (now (reach .exit)) todo d ⌝ }
+        ⌜ Grew (now (known .entry)) (now (known .exit)) (now (readers .entry)) (now (readers .exit)) todo d ⌝ }
     ensures { λ d. ⌜ Added writing o (2 ^ (w + mostDevices)) (now (known .entry)) (now (known .exit)) ⌝ }
 {
     if !writing {
@@ -106,5 +106,5 @@ pub fn collect(
         return todo;
     }
     known[o] = y;
-    give(reach, todo, w, x % DEVICE_WORDS)
+    give(readers, todo, w, x % DEVICE_WORDS)
 }

@@ -29,16 +29,16 @@ use Rattle.closure.proofs.begin.begin.Statement.{statement}
 use Rattle.closure.proofs.begin.begin.Tie as tie
 
 abbrev Inv-loop : tie.InvT-loop
-Inv-loop counts kind class owner area room known₀ reach₀ last d₀ o₀ known reach d o =
-    (o ≤ last + 1) × (1 ≤ o) × (length known ≡ objectSlots) × (length reach ≡ valueSlots)
-    × ((j : ℕ) → o ≤ j → getD known j 0 ≡ 0) × By known reach × Covered known reach
-    × ((v n : ℕ) → Has reach v n → bit d v ≡ 1)
+Inv-loop counts kind class owner area room known₀ readers₀ last d₀ o₀ known readers d o =
+    (o ≤ last + 1) × (1 ≤ o) × (length known ≡ objectSlots) × (length readers ≡ valueSlots)
+    × ((j : ℕ) → o ≤ j → getD known j 0 ≡ 0) × By known readers × Covered known readers
+    × ((v n : ℕ) → Has readers v n → bit d v ≡ 1)
     × ((m : Scene) → Sound (starting m counts kind class owner (view room area)) known)
     × ((m : Scene) (j : ℕ) → j < o → In (counts .objects) j
     → BegunAt (starting m counts kind class owner (view room area)) known j)
 
 abbrev μ-loop : tie.MeasureT-loop
-μ-loop counts kind class owner area room known₀ reach₀ last d₀ o₀ known reach d o = last + 1 - o
+μ-loop counts kind class owner area room known₀ readers₀ last d₀ o₀ known readers d o = last + 1 - o
 
 cast-last : tie.Need-cast-last Inv-loop μ-loop
 cast-last c = search needs
@@ -54,7 +54,8 @@ loop-holds c =
       ap length t ∙ length-replicate {A = ℕ} valueSlots 0,
       λ j h. ap (λ (l : List ℕ). getD l j 0) k ∙ getD-none objectSlots j,
       subst (λ (l : List ℕ). By (now (a .args .known)) l) (sym t) (by-none (now (a .args .known)) valueSlots),
-      subst (λ (l : List ℕ). Covered l (now (a .args .reach))) (sym k) (covers-none objectSlots (now (a .args .reach))),
+      subst (λ (l : List ℕ). Covered l (now (a .args .readers))) (sym k)
+          (covers-none objectSlots (now (a .args .readers))),
       λ v n e. absurd (no-digit valueSlots v n (subst (λ (l : List ℕ). Has l v n) t e)),
       λ m. subst (λ (l : List ℕ). Sound (starting m (a .args .counts) (now (a .args .kind)) (now (a .args .class))
           (now (a .args .owner)) (view (a .args .room) (now (a .args .area)))) l) (sym k)

@@ -13,9 +13,9 @@ use Rattle.closure.proofs.begin.seed.Tie as tie
 returns : tie.Need-returns
 returns c =
     let a = c .before in
-    subst (λ (r : ℕ). Gave (λ u. bit (a .args .x) (u + mostDevices) ≡ 1) r (now (a .args .reach))
-    (now (a .args .reach)) (a .args .todo) (a .args .todo)) (sym (c .if1 .taken))
-    (gave-nobody _ (now (a .args .reach)) (a .args .todo))
+    subst (λ (r : ℕ). Gave (λ u. bit (a .args .x) (u + mostDevices) ≡ 1) r (now (a .args .readers))
+    (now (a .args .readers)) (a .args .todo) (a .args .todo)) (sym (c .if1 .taken))
+    (gave-nobody _ (now (a .args .readers)) (a .args .todo))
 
 spread-requires : tie.Need-spread-requires
 spread-requires c κs = search needs

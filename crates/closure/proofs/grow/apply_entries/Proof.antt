@@ -20,9 +20,9 @@ use Rattle.closure.proofs.grow.apply_entries.Statement.{statement}
 use Rattle.closure.proofs.grow.apply_entries.Tie as tie
 
 abbrev Inv-loop : tie.InvT-loop
-Inv-loop kind count entries fine known₀ reach₀ todo r v most first end d₀ at₀ known reach d at =
+Inv-loop kind count entries fine known₀ readers₀ todo r v most first end d₀ at₀ known readers d at =
     (j : ℕ) × (at ≡ entryPlace v j) × (1 ≤ j) × (j ≤ most + 1) × (length known ≡ objectSlots)
-    × (length reach ≡ valueSlots) × Grew known₀ known reach₀ reach todo d
+    × (length readers ≡ valueSlots) × Grew known₀ known readers₀ readers todo d
     × ((m : Scene) (n : Counts) → ValuesOk n count entries → v ≤ n .values → Each
     (following m n kind count entries true) r v
     → Sound (following m n kind count entries true) known₀ → Sound (following m n kind count entries true) known)
@@ -30,7 +30,7 @@ Inv-loop kind count entries fine known₀ reach₀ todo r v most first end d₀ 
     × NoStrange entries fine r v j
 
 abbrev μ-loop : tie.MeasureT-loop
-μ-loop kind count entries fine known₀ reach₀ todo r v most first end d₀ at₀ known reach d at = end - at
+μ-loop kind count entries fine known₀ readers₀ todo r v most first end d₀ at₀ known readers d at = end - at
 
 -- in the loop entry j of the value is there
 in-value : (c : tie.In-loop Inv-loop μ-loop)

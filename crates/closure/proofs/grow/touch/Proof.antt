@@ -45,7 +45,7 @@ returns c =
           a .pre .1 .1 .1 .0,
           (
             λ m g z. going-none (following m (a .args .counts) (now (a .args .kind)) (now (a .args .count))
-                (now (a .args .entries)) true) (now (a .args .fine)) (now (a .args .known)) (now (a .args .reach))
+                (now (a .args .entries)) true) (now (a .args .fine)) (now (a .args .known)) (now (a .args .readers))
                 (now (a .args .done)) (a .args .todo) (l .result) (w .result) (a .args .v) g (l .ensures) (w .ensures)
                 (c .if1 .taken),
             (λ m g n e. absurd (bit-zero n e), λ z. omega (arith, l .ensures .less)),
@@ -86,13 +86,13 @@ returns-2 c =
             λ m g z. absurd (c .if2 .taken z),
             (
               λ m g n b. suspected-of (following m (a .args .counts) (now (a .args .kind)) (now (a .args .count))
-                  (now (a .args .entries)) true) (now (a .args .fine)) (now (a .args .known)) (now (a .args .reach))
+                  (now (a .args .entries)) true) (now (a .args .fine)) (now (a .args .known)) (now (a .args .readers))
                   (now (a .args .done)) (a .args .todo) (l .result) (w .result) (a .args .v) g (l .ensures)
                   (w .ensures) _ _ _
                   (e .0) (now (a .args .count)) (now (a .args .entries)) (t .result .strange) refl refl
                   (e .1 .0 m (fresh-each (following m (a .args .counts) (now (a .args .kind)) (now (a .args .count))
                   (now (a .args .entries)) true) (now (a .args .fine)) (now (a .args .known))
-                  (now (a .args .reach)) (now (a .args .done)) (a .args .todo) (l .result) (w .result)
+                  (now (a .args .readers)) (now (a .args .done)) (a .args .todo) (l .result) (w .result)
                   (a .args .v) g (l .ensures) (w .ensures)) (g .begun .sound))
                   (e .1 .1 .1 .1) n b,
               λ z. absurd (c .if2 .taken z),
@@ -128,12 +128,12 @@ returns-3 c =
           length-set (now (a .args .done)) (a .args .v) _ ∙ a .pre .1 .1 .1 .0,
           (
             λ m g z. going-some (following m (a .args .counts) (now (a .args .kind)) (now (a .args .count))
-                (now (a .args .entries)) true) (now (a .args .fine)) (now (a .args .known)) (now (a .args .reach))
+                (now (a .args .entries)) true) (now (a .args .fine)) (now (a .args .known)) (now (a .args .readers))
                 (now (a .args .done)) (a .args .todo) (l .result) (w .result) (a .args .v) g (l .ensures)
                 (w .ensures) _ _ _
                 (e .0) (y .result) few (y .ensures .0)
                 (e .1 .0 m (fresh-each (following m (a .args .counts) (now (a .args .kind)) (now (a .args .count))
-                (now (a .args .entries)) true) (now (a .args .fine)) (now (a .args .known)) (now (a .args .reach))
+                (now (a .args .entries)) true) (now (a .args .fine)) (now (a .args .known)) (now (a .args .readers))
                 (now (a .args .done)) (a .args .todo) (l .result) (w .result) (a .args .v) g (l .ensures)
                 (w .ensures)) (g .begun .sound))
                 (e .1 .1 .0 z m) (e .1 .1 .1 .0 z),

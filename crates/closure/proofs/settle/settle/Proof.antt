@@ -15,13 +15,13 @@ use Rattle.closure.proofs.settle.settle.Statement.{statement}
 use Rattle.closure.proofs.settle.settle.Tie as tie
 
 abbrev Inv-loop : tie.InvT-loop
-Inv-loop counts kind count entries fine known₀ reach₀ done₀ todo last d₀ from₀ known reach done d from =
-    (from < 64) × (length known ≡ objectSlots) × (length reach ≡ valueSlots) × (length done ≡ valueSlots)
-    × ((m : Scene) → Going (following m counts kind count entries true) fine known₀ reach₀ done₀ todo → Going
-    (following m counts kind count entries true) fine known reach done d)
+Inv-loop counts kind count entries fine known₀ readers₀ done₀ todo last d₀ from₀ known readers done d from =
+    (from < 64) × (length known ≡ objectSlots) × (length readers ≡ valueSlots) × (length done ≡ valueSlots)
+    × ((m : Scene) → Going (following m counts kind count entries true) fine known₀ readers₀ done₀ todo → Going
+    (following m counts kind count entries true) fine known readers done d)
 
 abbrev μ-loop : tie.MeasureT-loop
-μ-loop counts kind count entries fine known₀ reach₀ done₀ todo last d₀ from₀ known reach done d from =
+μ-loop counts kind count entries fine known₀ readers₀ done₀ todo last d₀ from₀ known readers done d from =
     slack done * 2 ^ 64 + d
 
 cast-last : tie.Need-cast-last Inv-loop μ-loop

@@ -16,13 +16,13 @@ element-copy-out-old c = search needs
 returns : tie.Need-returns
 returns c =
     let a = c .before .before in
-    gave-none (now (a .args .reach)) (a .args .v) (a .args .r) (a .args .todo) (c .if1 .taken)
+    gave-none (now (a .args .readers)) (a .args .v) (a .args .r) (a .args .todo) (c .if1 .taken)
 
-mul-reach : tie.Need-mul-reach
-mul-reach c = search needs
+mul-readers : tie.Need-mul-readers
+mul-readers c = search needs
 
-element-write-reach : tie.Need-element-write-reach
-element-write-reach c = search needs
+element-write-readers : tie.Need-element-write-readers
+element-write-readers c = search needs
 
 power-requires : tie.Need-power-requires
 power-requires c κs = search needs
@@ -30,7 +30,7 @@ power-requires c κs = search needs
 returns-2 : tie.Need-returns-2
 returns-2 c =
     let a = c .before .before .before in
-    gave-one (now (a .args .reach)) (a .args .v) (a .args .r) (a .args .todo) (c .power .result)
+    gave-one (now (a .args .readers)) (a .args .v) (a .args .r) (a .args .todo) (c .power .result)
     (omega (arith, a .pre .0, a .pre .1)) (c .power .ensures)
 
 pub give-spec : {M : Type 1} → statement M
@@ -40,7 +40,7 @@ give-spec =
     mul-old
     element-copy-out-old
     returns
-    mul-reach
-    element-write-reach
+    mul-readers
+    element-write-readers
     power-requires
     returns-2)

@@ -12,18 +12,18 @@ use Rattle.closure.proofs.spread.spread.Statement.{statement}
 use Rattle.closure.proofs.spread.spread.Tie as tie
 
 abbrev Inv-loop : tie.InvT-loop
-Inv-loop reach₀ todo x r d₀ q₀ reach d q = (length reach ≡ valueSlots) × (q < 2 ^ valueSlots)
-    × Giving x q r reach₀ reach todo d
+Inv-loop readers₀ todo x r d₀ q₀ readers d q = (length readers ≡ valueSlots) × (q < 2 ^ valueSlots)
+    × Giving x q r readers₀ readers todo d
 
 abbrev μ-loop : tie.MeasureT-loop
-μ-loop reach₀ todo x r d₀ q₀ reach d q = q
+μ-loop readers₀ todo x r d₀ q₀ readers d q = q
 
 loop-holds : tie.Need-loop-holds Inv-loop μ-loop
 loop-holds c =
     let a = c in (
       a .pre,
       omega arith,
-      giving-none (a .args .x) _ (a .args .r) (a .args .todo) (now (a .args .reach))
+      giving-none (a .args .x) _ (a .args .r) (a .args .todo) (now (a .args .readers))
           (high-bit (a .args .x) mostDevices),
     )
 
