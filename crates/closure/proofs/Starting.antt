@@ -38,7 +38,7 @@ use Rattle.closure.specs.Words.{
   FirstWord,
 }
 use Rattle.closure.specs.Search.{Going}
-use Rattle.closure.proofs.Digits.{or-left, or-right, bit-zero, pow-bit, pow-only, mod-bit, bit-mod}
+use Rattle.closure.proofs.Digits.{or-left, or-right, bit-zero, pow-bit, pow-only, mod-bit, bit-mod, some-bit}
 use Rattle.closure.proofs.Ranges.{
   hardcoded-object,
   hardcoded-class,
@@ -119,6 +119,15 @@ value-one w kind b o v x s is few e =
       right = λ n h. (s, pow-only (held b o + mostDevices) n (subst (λ (y : ℕ). bit y n ≡ 1) p h), few);
       all = λ h. subst (λ (y : ℕ). bit y (held b o + mostDevices) ≡ 1) (sym p) (pow-bit (held b o + mostDevices));
     }
+
+-- its word has no device
+pub value-above : {w : ℕ} {kind : List ℕ} {b : State} {o x : ℕ} → ValueWord w kind b o x → x % 2 ^ mostDevices ≡ 0
+value-above {x = x} f =
+    by-cases (ℕ-discrete (x % 2 ^ mostDevices) 0) (λ z. z)
+    (λ z.
+    let (k, e) = some-bit mostDevices (x % 2 ^ mostDevices) z (omega arith) in
+    let (low, h) = mod-bit x mostDevices k e in
+    absurd (omega (arith, low, f .right k h .1)))
 
 pub starts-of : (kind : List ℕ) (b : State) (o p : ℕ) → p ≡ objectIn b o → holdsValue (getD kind o 0) ≡ true
     → (p ≡ 0 → ⊥) → starts kind b o ≡ true

@@ -64,7 +64,8 @@ fn value_of(counts: Counts, kind: &[u8; OBJECT_SLOTS], area: &[u8], room: usize,
     words::power(w + FIRST_VALUE)
 }
 
-// The word of o before any step: its device, and the value that it holds if it is active.
+// The word of o before any step: its device, and the value that it holds if it is active. Only a hardcoded descriptor
+// has a device.
 fn first<'a>(
     counts: Counts,
     kind: &'a [u8; OBJECT_SLOTS],
@@ -80,6 +81,7 @@ fn first<'a>(
     ensures { λ x.
         ⌜ ((m : Scene) → FirstWord (starting m counts (now (kind .entry)) (now (class .entry)) (now (owner .entry))
         (view room (now (area .entry)))) o x) ⌝ }
+    ensures { λ x. ⌜ ((getD (now (kind .entry)) o 0 ≡ 4 → ⊥) → x % 2 ^ mostDevices ≡ 0) ⌝ }
 {
     if kind[o] == TRANSFER_KIND {
         return value_of(counts, kind, area, room, o);
@@ -91,13 +93,17 @@ fn first<'a>(
     0
 }
 
-// The devices of the word x read its values.
-fn seed(readers: &mut [u64; VALUE_SLOTS], todo: u64, x: u64) -> u64
+// The devices of x, the word of an object of this kind, read its values.
+fn seed(kind: u8, readers: &mut [u64; VALUE_SLOTS], todo: u64, x: u64) -> u64
     requires { ⌜ length (now readers) ≡ valueSlots ⌝ }
+    requires { ⌜ ((kind ≡ 4 → ⊥) → x % 2 ^ mostDevices ≡ 0) ⌝ }
     ensures { λ d.
         ⌜ Gave (λ u. bit x (u + mostDevices) ≡ 1) (x % 2 ^ mostDevices) (now (readers .entry)) (now (readers .exit))
         todo d ⌝ }
 {
+    if kind != HARDCODED_KIND {
+        return todo;
+    }
     let r = x % DEVICE_WORDS;
     if r == 0 {
         return todo;
@@ -132,7 +138,7 @@ pub fn begin<'a>(
     while o <= last {
         let x = first(counts, kind, class, owner, area, room, o);
         known[o] = x;
-        d = seed(readers, d, x);
+        d = seed(kind[o], readers, d, x);
         o += 1;
     }
     d

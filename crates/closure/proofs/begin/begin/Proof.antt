@@ -76,8 +76,11 @@ mul-known c = search needs
 element-write-known : tie.Need-element-write-known Inv-loop μ-loop
 element-write-known c = search needs
 
+element-copy-out-seed : tie.Need-element-copy-out-seed Inv-loop μ-loop
+element-copy-out-seed c = search needs
+
 seed-requires : tie.Need-seed-requires Inv-loop μ-loop
-seed-requires c κs = c .before .before .before .loop .inv .3
+seed-requires c κs = (c .before .before .before .before .loop .inv .3, c .before .before .first .ensures .1)
 
 add-o : tie.Need-add-o Inv-loop μ-loop
 add-o c = search needs
@@ -87,10 +90,10 @@ loop-less c = omega arith
 
 loop-again : tie.Need-loop-again Inv-loop μ-loop
 loop-again c =
-    let a = c .before .before .before .before .before .before .before in
-    let b = c .before .before .before .before .loop in
+    let a = c .before .before .before .before .before .before .before .before in
+    let b = c .before .before .before .before .before .loop in
     let g = c .seed .ensures in
-    let f = c .before .before .first in
+    let f = c .before .before .before .first in
     let few : b .o < length (b .known) = omega (arith, b .inv .2) in
     let z = b .inv .4 (b .o) (omega arith) in (
       omega arith,
@@ -101,9 +104,9 @@ loop-again c =
       seed-by (b .known) _ _ _ _ (b .o) (f .result) few z g (b .inv .5),
       seed-covers (b .known) _ _ _ _ (b .o) (f .result) few z g (b .inv .6),
       seed-marked (b .known) _ _ _ _ (b .o) (f .result) few z g (b .inv .7),
-      λ m. sound-set (b .known) (b .o) _ few (b .inv .8 m) (f .ensures m .right),
+      λ m. sound-set (b .known) (b .o) _ few (b .inv .8 m) (f .ensures .0 m .right),
       λ m. begin-more (starting m (a .args .counts) (now (a .args .kind)) (now (a .args .class)) (now (a .args .owner))
-          (view (a .args .room) (now (a .args .area)))) (b .known) (b .o) _ few (f .ensures m) (b .inv .9 m),
+          (view (a .args .room) (now (a .args .area)))) (b .known) (b .o) _ few (f .ensures .0 m) (b .inv .9 m),
     )
 
 returns : tie.Need-returns Inv-loop μ-loop
@@ -138,6 +141,7 @@ begin-spec =
     first-requires
     mul-known
     element-write-known
+    element-copy-out-seed
     seed-requires
     add-o
     loop-less
