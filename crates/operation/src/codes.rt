@@ -1,18 +1,19 @@
 // What follows the code of an operation, for each family of codes; and a code's family and actor.
 ghost use mathlib.Core.Path.{_≡_};
 ghost use Rattle.model.specs.Operation.{familyOf, actorOf};
-ghost use Rattle.model.specs.Operation.{writing, copying, partitioning, activating, listing, deactivating, afterCode};
+ghost use Rattle.model.specs.Operation.{partitioning, activating, deactivating, afterCode};
+ghost use Rattle.operation.specs.Elements.{beforeElements, counted};
 use crate::fields::count_at;
 use crate::fields::number_at;
+use crate::items::Element;
 use crate::items::go_on;
-use crate::items::read_items;
-use crate::items::read_objects;
-use crate::items::read_pairs;
+use crate::items::read_elements;
 use crate::items::stop;
 use crate::items::with_head;
 use model::Actor;
 use model::Family;
 use model::Num;
+use model::Operation;
 use model::Parse;
 
 // What a code does. (Question 10 lets no code 0 by.)
@@ -40,36 +41,32 @@ pub fn actor_of(code: usize) -> Actor
     }
 }
 
-// Codes 1 and 2, a write: driver or device, count, items.
-fn read_write(s: &[u8], code: usize, at: usize) -> Parse
-    ensures { λ r. ⌜ r ≡ writing code (now (s .entry)) at ⌝ }
+// The operation before its n elements. The number x before the count is the driver or device that writes or reads, or
+// the partition of a list.
+fn before_elements(e: Element, code: usize, x: usize, n: usize) -> Operation
+    ensures { λ r. ⌜ r ≡ beforeElements e code x n ⌝ }
 {
-    let f = number_at(s, at);
-    let Num::Got(subject, a) = f else {
-        return stop();
-    };
-    let g = count_at(s, a);
-    let Num::Got(n, b) = g else {
-        return stop();
-    };
-    let op = with_head(code, subject, 0, n);
-    read_items(s, n, b, op)
+    match e {
+        Element::Item => with_head(code, x, 0, n),
+        Element::Pair => with_head(code, x, 0, n),
+        Element::Object => with_head(code, 0, x, n),
+    }
 }
 
-// Codes 3 and 4, a read: driver or device, count, pairs.
-fn read_copy(s: &[u8], code: usize, at: usize) -> Parse
-    ensures { λ r. ⌜ r ≡ copying code (now (s .entry)) at ⌝ }
+// Codes 1 and 2, a write, 3 and 4, a read, 9 and 12, external objects: a number, a count, the elements.
+fn read_counted(s: &[u8], e: Element, code: usize, at: usize) -> Parse
+    ensures { λ r. ⌜ r ≡ counted e code (now (s .entry)) at ⌝ }
 {
     let f = number_at(s, at);
-    let Num::Got(subject, a) = f else {
+    let Num::Got(x, a) = f else {
         return stop();
     };
     let g = count_at(s, a);
     let Num::Got(n, b) = g else {
         return stop();
     };
-    let op = with_head(code, subject, 0, n);
-    read_pairs(s, n, b, op)
+    let op = before_elements(e, code, x, n);
+    read_elements(s, e, n, b, op)
 }
 
 // Codes 5 and 6: the partition to create or destroy.
@@ -100,22 +97,6 @@ fn read_activation(s: &[u8], code: usize, at: usize) -> Parse
     go_on(next, op)
 }
 
-// Codes 9 and 12, external objects: partition, count, objects.
-fn read_list(s: &[u8], code: usize, at: usize) -> Parse
-    ensures { λ r. ⌜ r ≡ listing code (now (s .entry)) at ⌝ }
-{
-    let f = number_at(s, at);
-    let Num::Got(p, a) = f else {
-        return stop();
-    };
-    let g = count_at(s, a);
-    let Num::Got(n, b) = g else {
-        return stop();
-    };
-    let op = with_head(code, 0, p, n);
-    read_objects(s, n, b, op)
-}
-
 // Codes 10 and 11, deactivation: driver or device.
 fn read_deactivation(s: &[u8], code: usize, at: usize) -> Parse
     ensures { λ r. ⌜ r ≡ deactivating code (now (s .entry)) at ⌝ }
@@ -133,11 +114,11 @@ pub(crate) fn arguments(s: &[u8], code: usize, at: usize) -> Parse
     ensures { λ r. ⌜ r ≡ afterCode (now (s .entry)) code at ⌝ }
 {
     match code {
-        1..=2 => read_write(s, code, at),
-        3..=4 => read_copy(s, code, at),
+        1..=2 => read_counted(s, Element::Item, code, at),
+        3..=4 => read_counted(s, Element::Pair, code, at),
         5..=6 => read_partition(s, code, at),
         7..=8 => read_activation(s, code, at),
-        9 | 12 => read_list(s, code, at),
+        9 | 12 => read_counted(s, Element::Object, code, at),
         10..=11 => read_deactivation(s, code, at),
         _ => stop(),
     }

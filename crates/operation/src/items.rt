@@ -6,6 +6,7 @@ ghost use Rattle.model.specs.Number.{mostNumber};
 ghost use Rattle.model.specs.State.{contentBytes};
 ghost use Rattle.model.specs.Operation.{mostItems, withHead, withItem, read, refused};
 ghost use Rattle.model.specs.Operation.{turns, rawItem, item, pair, object};
+ghost use Rattle.operation.specs.Elements.{element};
 use crate::fields::number_at;
 use crate::fields::raw_at;
 use model::CONTENT_BYTES;
@@ -13,6 +14,13 @@ use model::MOST_ITEMS;
 use model::Num;
 use model::Operation;
 use model::Parse;
+
+// What an operation has a count of: items of a write, pairs of a read, objects of a list.
+pub enum Element {
+    Item,
+    Pair,
+    Object,
+}
 
 // An operation without items.
 pub fn with_head(code: usize, subject: usize, partition: usize, count: usize) -> Operation
@@ -164,56 +172,28 @@ fn read_object(s: &[u8], i: usize, at: usize, op: Operation) -> Parse
     go_on(next, o)
 }
 
-// The n items of a write; the first that cannot be read ends them.
-pub fn read_items(s: &[u8], n: usize, at: usize, op: Operation) -> Parse
-    requires { ⌜ n ≤ mostItems ⌝ }
-    ensures { λ r. ⌜ r ≡ turns (item (now (s .entry))) n 0 at op ⌝ }
+// Element i.
+fn read_element(s: &[u8], e: Element, i: usize, at: usize, op: Operation) -> Parse
+    requires { ⌜ i < mostItems ⌝ }
+    ensures { λ r. ⌜ r ≡ element e (now (s .entry)) i at op ⌝ }
 {
-    let mut i: usize = 0;
-    let mut p = at;
-    let mut o = op;
-    while i < n {
-        let parse = read_item(s, i, p, o);
-        if parse.answer != 0 {
-            return parse;
-        }
-        p = parse.at;
-        o = parse.operation;
-        i += 1;
+    match e {
+        Element::Item => read_item(s, i, at, op),
+        Element::Pair => read_pair(s, i, at, op),
+        Element::Object => read_object(s, i, at, op),
     }
-    go_on(p, o)
 }
 
-// The n pairs of a read.
-pub fn read_pairs(s: &[u8], n: usize, at: usize, op: Operation) -> Parse
+// All n elements; the first that cannot be read ends them.
+pub fn read_elements(s: &[u8], e: Element, n: usize, at: usize, op: Operation) -> Parse
     requires { ⌜ n ≤ mostItems ⌝ }
-    ensures { λ r. ⌜ r ≡ turns (pair (now (s .entry))) n 0 at op ⌝ }
+    ensures { λ r. ⌜ r ≡ turns (element e (now (s .entry))) n 0 at op ⌝ }
 {
     let mut i: usize = 0;
     let mut p = at;
     let mut o = op;
     while i < n {
-        let parse = read_pair(s, i, p, o);
-        if parse.answer != 0 {
-            return parse;
-        }
-        p = parse.at;
-        o = parse.operation;
-        i += 1;
-    }
-    go_on(p, o)
-}
-
-// The n objects of a list.
-pub fn read_objects(s: &[u8], n: usize, at: usize, op: Operation) -> Parse
-    requires { ⌜ n ≤ mostItems ⌝ }
-    ensures { λ r. ⌜ r ≡ turns (object (now (s .entry))) n 0 at op ⌝ }
-{
-    let mut i: usize = 0;
-    let mut p = at;
-    let mut o = op;
-    while i < n {
-        let parse = read_object(s, i, p, o);
+        let parse = read_element(s, e, i, p, o);
         if parse.answer != 0 {
             return parse;
         }

@@ -1,5 +1,6 @@
 // Operations taken apart (document 01: operation record; question 10). The definitions are `model`'s `Operation`.
 pub mod codes;
+pub mod columns;
 mod content;
 mod fields;
 mod items;

@@ -1,7 +1,7 @@
 -- `operation::read_operation` meets its contract: each way out is a law of the whole operation. Assumes nothing.
 use mathlib.Core.Path.{refl}
 use borrow.Author.Needs.{needs}
-use Rattle.operation.proofs.Laws
+use Rattle.operation.proofs.Parsing
 use Rattle.operation.proofs.read_operation.Statement.{statement}
 use Rattle.operation.proofs.read_operation.Tie as tie
 
@@ -19,7 +19,7 @@ refusal-requires c κs = search needs
 
 returns : tie.Need-returns
 returns c =
-    Laws.whole-bad _ (c .before .before .before .number-at .ensures) (c .before .enum-told .given .1)
+    Parsing.whole-bad _ (c .before .before .before .number-at .ensures) (c .before .enum-told .given .1)
     (c .refusal .ensures)
 
 arguments-requires : tie.Need-arguments-requires
@@ -30,7 +30,7 @@ refusal-requires-2 c κs = search needs
 
 returns-2 : tie.Need-returns-2
 returns-2 c =
-    Laws.whole-stop _ (c .before .before .before .before .before .before .before .number-at .ensures)
+    Parsing.whole-stop _ (c .before .before .before .before .before .before .before .number-at .ensures)
     (c .before .before .before .before .before .f .given .1) (c .before .before .before .arguments .ensures)
     (c .before .if1 .taken) (c .refusal2 .ensures)
 
@@ -39,14 +39,14 @@ refusal-requires-3 c κs = search needs
 
 returns-3 : tie.Need-returns-3
 returns-3 c =
-    Laws.whole-left _ (c .before .before .before .before .before .before .before .before .before .number-at .ensures)
+    Parsing.whole-left _ (c .before .before .before .before .before .before .before .before .before .number-at .ensures)
     (c .before .before .before .before .before .before .before .f .given .1)
     (c .before .before .before .before .before .arguments .ensures) (c .before .before .before .if1 .left)
     (c .before .if2 .taken) (c .refusal3 .ensures)
 
 returns-4 : tie.Need-returns-4
 returns-4 c =
-    Laws.whole-read _ (c .before .before .before .before .before .before .before .before .before .number-at .ensures)
+    Parsing.whole-read _ (c .before .before .before .before .before .before .before .before .before .number-at .ensures)
     (c .before .before .before .before .before .before .before .f .given .1)
     (c .before .before .before .before .before .arguments .ensures) (c .before .before .before .if1 .left)
     (c .before .if2 .left) refl refl

@@ -1,16 +1,16 @@
 -- `operation::codes::actor_of` meets its contract: each arm of the match is a law of its codes. Assumes nothing.
-use Rattle.operation.proofs.Laws
+use Rattle.operation.proofs.Parsing
 use Rattle.operation.proofs.codes.actor_of.Statement.{statement}
 use Rattle.operation.proofs.codes.actor_of.Tie as tie
 
 returns : tie.Need-returns
-returns c = Laws.driver-actor _ (c .match .keys1)
+returns c = Parsing.driver-actor _ (c .match .keys1)
 
 returns-2 : tie.Need-returns-2
-returns-2 c = Laws.device-actor _ (c .match .keys2)
+returns-2 c = Parsing.device-actor _ (c .match .keys2)
 
 returns-3 : tie.Need-returns-3
-returns-3 c = Laws.external-actor _ (c .match .rest .0 .1) (c .match .rest .1)
+returns-3 c = Parsing.external-actor _ (c .match .rest .0 .1) (c .match .rest .1)
 
 pub actor-of-spec : {M : Type 1} → statement M
 actor-of-spec = tie.close (tie.spec returns returns-2 returns-3)

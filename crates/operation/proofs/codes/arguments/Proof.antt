@@ -3,18 +3,18 @@ use mathlib.Core.Path.{_≡_}
 use native.Mathlib.Omega.{arith}
 use mathlib.Core.Logic.{⊎-elim, inl, inr}
 use borrow.Author.Needs.{needs}
-use Rattle.operation.proofs.Laws
+use Rattle.operation.proofs.Parsing
 use Rattle.operation.proofs.codes.arguments.Statement.{statement}
 use Rattle.operation.proofs.codes.arguments.Tie as tie
 
-read-list-requires : tie.Need-read-list-requires
-read-list-requires c κs = search needs
+read-counted-requires : tie.Need-read-counted-requires
+read-counted-requires c κs = search needs
 
-read-write-requires : tie.Need-read-write-requires
-read-write-requires c κs = search needs
+read-counted-requires-2 : tie.Need-read-counted-requires-2
+read-counted-requires-2 c κs = search needs
 
-read-copy-requires : tie.Need-read-copy-requires
-read-copy-requires c κs = search needs
+read-counted-requires-3 : tie.Need-read-counted-requires-3
+read-counted-requires-3 c κs = search needs
 
 read-partition-requires : tie.Need-read-partition-requires
 read-partition-requires c κs = search needs
@@ -29,40 +29,40 @@ stop-requires : tie.Need-stop-requires
 stop-requires c κs = search needs
 
 returns : tie.Need-returns
-returns c = Laws.list-arm _ _ _ (c .before .match .keys1) (c .read-list .ensures)
+returns c = Parsing.list-arm _ _ _ (c .before .match .keys1) (c .read-counted .ensures)
 
 returns-2 : tie.Need-returns-2
-returns-2 c = Laws.write-arm _ _ _ (omega arith) (omega arith) (c .read-write .ensures)
+returns-2 c = Parsing.write-arm _ _ _ (omega arith) (omega arith) (c .read-counted2 .ensures)
 
 returns-3 : tie.Need-returns-3
-returns-3 c = Laws.copy-arm _ _ _ (omega arith) (omega arith) (c .read-copy .ensures)
+returns-3 c = Parsing.copy-arm _ _ _ (omega arith) (omega arith) (c .read-counted3 .ensures)
 
 returns-4 : tie.Need-returns-4
-returns-4 c = Laws.partitioning-arm _ _ _ (omega arith) (omega arith) (c .read-partition .ensures)
+returns-4 c = Parsing.partitioning-arm _ _ _ (omega arith) (omega arith) (c .read-partition .ensures)
 
 returns-5 : tie.Need-returns-5
-returns-5 c = Laws.activate-arm _ _ _ (omega arith) (omega arith) (c .read-activation .ensures)
+returns-5 c = Parsing.activate-arm _ _ _ (omega arith) (omega arith) (c .read-activation .ensures)
 
 returns-6 : tie.Need-returns-6
 returns-6 c =
     let code = c .before .before .before .before .before .before .before .before .before .args .code in
     let rest = c .before .before .before .before .before .before .before .match .rest in
     let h : code ≡ 9 → ⊥ = λ e. rest .1 (inl e) in
-    Laws.deactivate-arm _ _ _ (omega arith) (omega arith) (c .read-deactivation .ensures)
+    Parsing.deactivate-arm _ _ _ (omega arith) (omega arith) (c .read-deactivation .ensures)
 
 returns-7 : tie.Need-returns-7
 returns-7 c =
     let h : c .before .before .before .before .args .code ≡ 12 → ⊥ = λ e. c .before .before .match .rest .1 (inr e) in
-    ⊎-elim (λ w. Laws.zero-arm _ _ _ (w .taken) (c .stop .ensures))
-    (λ w. Laws.other-arm _ _ _ (omega (arith, w .5 .left)) (c .stop .ensures)) (c .before .if1 .came)
+    ⊎-elim (λ w. Parsing.zero-arm _ _ _ (w .taken) (c .stop .ensures))
+    (λ w. Parsing.other-arm _ _ _ (omega (arith, w .5 .left)) (c .stop .ensures)) (c .before .if1 .came)
 
 pub arguments-spec : {M : Type 1} → statement M
 arguments-spec =
     tie.close
     (tie.spec
-    read-list-requires
-    read-write-requires
-    read-copy-requires
+    read-counted-requires
+    read-counted-requires-2
+    read-counted-requires-3
     read-partition-requires
     read-activation-requires
     read-deactivation-requires

@@ -1,7 +1,7 @@
 -- `operation::codes::family_of` meets its contract: each arm of the match is a law of its codes. Assumes nothing.
 use mathlib.Core.Path.{_≡_}
 use native.Mathlib.Omega.{arith}
-use Rattle.operation.proofs.Laws
+use Rattle.operation.proofs.Parsing
 use Rattle.operation.proofs.codes.family_of.Statement.{statement}
 use Rattle.operation.proofs.codes.family_of.Tie as tie
 
@@ -12,10 +12,10 @@ returns-2 : tie.Need-returns-2
 returns-2 c = rw (c .match .keys2)
 
 returns-3 : tie.Need-returns-3
-returns-3 c = Laws.write-family (c .before .before .args .code) (omega arith)
+returns-3 c = Parsing.write-family (c .before .before .args .code) (omega arith)
 
 returns-4 : tie.Need-returns-4
-returns-4 c = Laws.copy-family (c .before .before .before .args .code) (omega arith) (omega arith)
+returns-4 c = Parsing.copy-family (c .before .before .before .args .code) (omega arith) (omega arith)
 
 returns-5 : tie.Need-returns-5
 returns-5 c =
@@ -23,10 +23,10 @@ returns-5 c =
     let m = c .before .before .before .match .rest in
     let h : a .code ≡ 5 → ⊥ = λ e. m .0 .1 e in
     let k : a .code ≡ 6 → ⊥ = λ e. m .1 e in
-    Laws.activate-family (a .code) (omega arith) (omega arith)
+    Parsing.activate-family (a .code) (omega arith) (omega arith)
 
 returns-6 : tie.Need-returns-6
-returns-6 c = Laws.deactivate-family (c .before .before .before .before .args .code) (omega arith)
+returns-6 c = Parsing.deactivate-family (c .before .before .before .before .args .code) (omega arith)
 
 pub family-of-spec : {M : Type 1} → statement M
 family-of-spec = tie.close (tie.spec returns returns-2 returns-3 returns-4 returns-5 returns-6)

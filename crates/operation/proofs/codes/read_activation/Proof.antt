@@ -2,7 +2,7 @@
 -- nothing.
 use borrow.Author.Needs.{needs}
 use Rattle.model.specs.Operation.{activating}
-use Rattle.operation.proofs.Laws
+use Rattle.operation.proofs.Parsing
 use Rattle.operation.proofs.codes.read_activation.Statement.{statement}
 use Rattle.operation.proofs.codes.read_activation.Tie as tie
 
@@ -21,7 +21,7 @@ stop-requires c κs = search needs
 returns : tie.Need-returns
 unfolding activating
 returns c =
-    Laws.on-stop _ _ (c .before .before .before .number-at .ensures) (c .before .enum-told .given .1)
+    Parsing.on-stop _ _ (c .before .before .before .number-at .ensures) (c .before .enum-told .given .1)
     (c .stop .ensures)
 
 number-at-requires-2 : tie.Need-number-at-requires-2
@@ -39,9 +39,9 @@ stop-requires-2 c κs = search needs
 returns-2 : tie.Need-returns-2
 unfolding activating
 returns-2 c =
-    Laws.on-go _ _ (c .before .before .before .before .before .before .before .number-at .ensures)
+    Parsing.on-go _ _ (c .before .before .before .before .before .before .before .number-at .ensures)
     (c .before .before .before .before .before .f .given .1)
-    (Laws.on-stop _ _ (c .before .before .before .number-at2 .ensures) (c .before .enum-told2 .given .1)
+    (Parsing.on-stop _ _ (c .before .before .before .number-at2 .ensures) (c .before .enum-told2 .given .1)
     (c .stop2 .ensures))
 
 with-head-requires : tie.Need-with-head-requires
@@ -53,9 +53,9 @@ go-on-requires c κs = search needs
 returns-3 : tie.Need-returns-3
 unfolding activating
 returns-3 c =
-    Laws.on-go _ _ (c .before .before .before .before .before .before .before .before .before .number-at .ensures)
+    Parsing.on-go _ _ (c .before .before .before .before .before .before .before .before .before .number-at .ensures)
     (c .before .before .before .before .before .before .before .f .given .1)
-    (Laws.on-go _ _ (c .before .before .before .before .before .number-at2 .ensures)
+    (Parsing.on-go _ _ (c .before .before .before .before .before .number-at2 .ensures)
     (c .before .before .before .g .given .1)
     (rw (c .go-on .ensures, c .before .with-head .ensures)))
 

@@ -1,7 +1,7 @@
 -- `operation::codes::read_partition` meets its contract: the partition goes on or is refused. Assumes nothing.
 use borrow.Author.Needs.{needs}
 use Rattle.model.specs.Operation.{partitioning}
-use Rattle.operation.proofs.Laws
+use Rattle.operation.proofs.Parsing
 use Rattle.operation.proofs.codes.read_partition.Statement.{statement}
 use Rattle.operation.proofs.codes.read_partition.Tie as tie
 
@@ -20,7 +20,7 @@ stop-requires c κs = search needs
 returns : tie.Need-returns
 unfolding partitioning
 returns c =
-    Laws.on-stop _ _ (c .before .before .before .number-at .ensures) (c .before .enum-told .given .1)
+    Parsing.on-stop _ _ (c .before .before .before .number-at .ensures) (c .before .enum-told .given .1)
     (c .stop .ensures)
 
 with-head-requires : tie.Need-with-head-requires
@@ -32,7 +32,7 @@ go-on-requires c κs = search needs
 returns-2 : tie.Need-returns-2
 unfolding partitioning
 returns-2 c =
-    Laws.on-go _ _ (c .before .before .before .before .before .number-at .ensures)
+    Parsing.on-go _ _ (c .before .before .before .before .before .number-at .ensures)
     (c .before .before .before .f .given .1)
     (rw (c .go-on .ensures, c .before .with-head .ensures))
 

@@ -2,7 +2,7 @@
 -- follows. Assumes nothing.
 use borrow.Author.Needs.{needs}
 use Rattle.model.specs.Operation.{item}
-use Rattle.operation.proofs.Laws
+use Rattle.operation.proofs.Parsing
 use Rattle.operation.proofs.items.read_item.Statement.{statement}
 use Rattle.operation.proofs.items.read_item.Tie as tie
 
@@ -21,7 +21,7 @@ stop-requires c κs = search needs
 returns : tie.Need-returns
 unfolding item
 returns c =
-    Laws.on-stop _ _ (c .before .before .before .number-at .ensures) (c .before .enum-told .given .1)
+    Parsing.on-stop _ _ (c .before .before .before .number-at .ensures) (c .before .enum-told .given .1)
     (c .stop .ensures)
 
 number-at-requires-2 : tie.Need-number-at-requires-2
@@ -39,22 +39,22 @@ stop-requires-2 c κs = search needs
 returns-2 : tie.Need-returns-2
 unfolding item
 returns-2 c =
-    Laws.on-go _ _ (c .before .before .before .before .before .before .before .number-at .ensures)
+    Parsing.on-go _ _ (c .before .before .before .before .before .before .before .number-at .ensures)
     (c .before .before .before .before .before .f .given .1)
-    (Laws.on-stop _ _ (c .before .before .before .number-at2 .ensures) (c .before .enum-told2 .given .1)
+    (Parsing.on-stop _ _ (c .before .before .before .number-at2 .ensures) (c .before .enum-told2 .given .1)
     (c .stop2 .ensures))
 
 read-raw-requires : tie.Need-read-raw-requires
-read-raw-requires c κs = (search needs, search Laws.number-small)
+read-raw-requires c κs = (search needs, search Parsing.number-small)
 
 returns-3 : tie.Need-returns-3
 unfolding item
 returns-3 c =
-    Laws.on-go _ _ (c .before .before .before .before .before .before .before .before .before .number-at .ensures)
+    Parsing.on-go _ _ (c .before .before .before .before .before .before .before .before .before .number-at .ensures)
     (c .before .before .before .before .before .before .before .f .given .1)
-    (Laws.on-go _ _ (c .before .before .before .before .before .number-at2 .ensures)
+    (Parsing.on-go _ _ (c .before .before .before .before .before .number-at2 .ensures)
     (c .before .before .before .g .given .1)
-    (Laws.payload-raw _ _ _ _ _ _ (c .before .if1 .taken) (c .read-raw .ensures)))
+    (Parsing.payload-raw _ _ _ _ _ _ (c .before .if1 .taken) (c .read-raw .ensures)))
 
 stop-requires-3 : tie.Need-stop-requires-3
 stop-requires-3 c κs = search needs
@@ -62,12 +62,12 @@ stop-requires-3 c κs = search needs
 returns-4 : tie.Need-returns-4
 unfolding item
 returns-4 c =
-    Laws.on-go _ _
+    Parsing.on-go _ _
     (c .before .before .before .before .before .before .before .before .before .before .number-at .ensures)
     (c .before .before .before .before .before .before .before .before .f .given .1)
-    (Laws.on-go _ _ (c .before .before .before .before .before .before .number-at2 .ensures)
+    (Parsing.on-go _ _ (c .before .before .before .before .before .before .number-at2 .ensures)
     (c .before .before .before .before .g .given .1)
-    (Laws.payload-none _ _ _ _ _ _ (c .before .before .if1 .left) (c .before .if2 .taken) (c .stop3 .ensures)))
+    (Parsing.payload-none _ _ _ _ _ _ (c .before .before .if1 .left) (c .before .if2 .taken) (c .stop3 .ensures)))
 
 number-at-requires-3 : tie.Need-number-at-requires-3
 number-at-requires-3 c κs = search needs
@@ -84,18 +84,18 @@ stop-requires-4 c κs = search needs
 returns-5 : tie.Need-returns-5
 unfolding item
 returns-5 c =
-    Laws.on-go _ _
+    Parsing.on-go _ _
     (c .before .before .before .before .before .before .before .before .before .before .before .before .before
     .number-at .ensures)
     (c .before .before .before .before .before .before .before .before .before .before .before .f .given .1)
-    (Laws.on-go _ _ (c .before .before .before .before .before .before .before .before .before .number-at2 .ensures)
+    (Parsing.on-go _ _ (c .before .before .before .before .before .before .before .before .before .number-at2 .ensures)
     (c .before .before .before .before .before .before .before .g .given .1)
-    (Laws.payload-number _ _ _ _ _ _ (c .before .before .before .before .if2 .left)
-    (Laws.on-stop _ _ (c .before .before .before .number-at3 .ensures) (c .before .enum-told3 .given .1)
+    (Parsing.payload-number _ _ _ _ _ _ (c .before .before .before .before .if2 .left)
+    (Parsing.on-stop _ _ (c .before .before .before .number-at3 .ensures) (c .before .enum-told3 .given .1)
     (c .stop4 .ensures))))
 
 with-item-requires : tie.Need-with-item-requires
-with-item-requires c κs = (search needs, (search Laws.number-small, search Laws.number-small))
+with-item-requires c κs = (search needs, (search Parsing.number-small, search Parsing.number-small))
 
 go-on-requires : tie.Need-go-on-requires
 go-on-requires c κs = search needs
@@ -103,16 +103,16 @@ go-on-requires c κs = search needs
 returns-6 : tie.Need-returns-6
 unfolding item
 returns-6 c =
-    Laws.on-go _ _
+    Parsing.on-go _ _
     (c .before .before .before .before .before .before .before .before .before .before .before .before .before .before
     .before .number-at .ensures)
     (c .before .before .before .before .before .before .before .before .before .before .before .before .before .f
     .given .1)
-    (Laws.on-go _ _
+    (Parsing.on-go _ _
     (c .before .before .before .before .before .before .before .before .before .before .before .number-at2 .ensures)
     (c .before .before .before .before .before .before .before .before .before .g .given .1)
-    (Laws.payload-number _ _ _ _ _ _ (c .before .before .before .before .before .before .if2 .left)
-    (Laws.on-go _ _ (c .before .before .before .before .before .number-at3 .ensures)
+    (Parsing.payload-number _ _ _ _ _ _ (c .before .before .before .before .before .before .if2 .left)
+    (Parsing.on-go _ _ (c .before .before .before .before .before .number-at3 .ensures)
     (c .before .before .before .h .given .1)
     (rw (c .go-on .ensures, c .before .with-item .ensures)))))
 

@@ -2,7 +2,7 @@
 use native.Mathlib.Omega.{arith}
 use borrow.Author.Needs.{needs}
 use Rattle.model.specs.Operation.{object}
-use Rattle.operation.proofs.Laws
+use Rattle.operation.proofs.Parsing
 use Rattle.operation.proofs.items.read_object.Statement.{statement}
 use Rattle.operation.proofs.items.read_object.Tie as tie
 
@@ -21,11 +21,11 @@ stop-requires c κs = search needs
 returns : tie.Need-returns
 unfolding object
 returns c =
-    Laws.on-stop _ _ (c .before .before .before .number-at .ensures) (c .before .enum-told .given .1)
+    Parsing.on-stop _ _ (c .before .before .before .number-at .ensures) (c .before .enum-told .given .1)
     (c .stop .ensures)
 
 with-item-requires : tie.Need-with-item-requires
-with-item-requires c κs = (search needs, (search Laws.number-small, omega arith))
+with-item-requires c κs = (search needs, (search Parsing.number-small, omega arith))
 
 go-on-requires : tie.Need-go-on-requires
 go-on-requires c κs = search needs
@@ -33,7 +33,7 @@ go-on-requires c κs = search needs
 returns-2 : tie.Need-returns-2
 unfolding object
 returns-2 c =
-    Laws.on-go _ _ (c .before .before .before .before .before .number-at .ensures)
+    Parsing.on-go _ _ (c .before .before .before .before .before .number-at .ensures)
     (c .before .before .before .f .given .1)
     (rw (c .go-on .ensures, c .before .with-item .ensures))
 

@@ -1,7 +1,7 @@
 -- `operation::items::read_pair` meets its contract: each of two numbers goes on or is refused. Assumes nothing.
 use borrow.Author.Needs.{needs}
 use Rattle.model.specs.Operation.{pair}
-use Rattle.operation.proofs.Laws
+use Rattle.operation.proofs.Parsing
 use Rattle.operation.proofs.items.read_pair.Statement.{statement}
 use Rattle.operation.proofs.items.read_pair.Tie as tie
 
@@ -20,7 +20,7 @@ stop-requires c κs = search needs
 returns : tie.Need-returns
 unfolding pair
 returns c =
-    Laws.on-stop _ _ (c .before .before .before .number-at .ensures) (c .before .enum-told .given .1)
+    Parsing.on-stop _ _ (c .before .before .before .number-at .ensures) (c .before .enum-told .given .1)
     (c .stop .ensures)
 
 number-at-requires-2 : tie.Need-number-at-requires-2
@@ -38,13 +38,13 @@ stop-requires-2 c κs = search needs
 returns-2 : tie.Need-returns-2
 unfolding pair
 returns-2 c =
-    Laws.on-go _ _ (c .before .before .before .before .before .before .before .number-at .ensures)
+    Parsing.on-go _ _ (c .before .before .before .before .before .before .before .number-at .ensures)
     (c .before .before .before .before .before .f .given .1)
-    (Laws.on-stop _ _ (c .before .before .before .number-at2 .ensures) (c .before .enum-told2 .given .1)
+    (Parsing.on-stop _ _ (c .before .before .before .number-at2 .ensures) (c .before .enum-told2 .given .1)
     (c .stop2 .ensures))
 
 with-item-requires : tie.Need-with-item-requires
-with-item-requires c κs = (search needs, (search Laws.number-small, search Laws.number-small))
+with-item-requires c κs = (search needs, (search Parsing.number-small, search Parsing.number-small))
 
 go-on-requires : tie.Need-go-on-requires
 go-on-requires c κs = search needs
@@ -52,9 +52,9 @@ go-on-requires c κs = search needs
 returns-3 : tie.Need-returns-3
 unfolding pair
 returns-3 c =
-    Laws.on-go _ _ (c .before .before .before .before .before .before .before .before .before .number-at .ensures)
+    Parsing.on-go _ _ (c .before .before .before .before .before .before .before .before .before .number-at .ensures)
     (c .before .before .before .before .before .before .before .f .given .1)
-    (Laws.on-go _ _ (c .before .before .before .before .before .number-at2 .ensures)
+    (Parsing.on-go _ _ (c .before .before .before .before .before .number-at2 .ensures)
     (c .before .before .before .g .given .1)
     (rw (c .go-on .ensures, c .before .with-item .ensures)))
 

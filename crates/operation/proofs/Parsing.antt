@@ -50,6 +50,8 @@ use Rattle.model.specs.declared.Num.the-variants.{Got, Bad}
 use Rattle.model.specs.declared.Operation.{Operation}
 use Rattle.model.specs.declared.Parse.{Parse}
 use Rattle.operation.specs.declared.Parsed.{Parsed}
+use Rattle.operation.specs.declared.items.Element.the-variants.{Item, Pair, Object}
+use Rattle.operation.specs.Elements.{element, beforeElements, counted}
 
 -- what follows a number: it is refused, or it goes to what follows
 module _ (x : Num) (k : ℕ → ℕ → Parse) {f : Num} (h : f ≡ x) where
@@ -66,32 +68,32 @@ right : (a b : Bool) → a && b ≡ true → b ≡ true
 right true b h = h
 right false b h = absurd (false≢true h)
 
-abbrev Small : Num → Type 0
-Small (Bad f) = Unit {0}
-Small (Got v next) = v ≤ mostNumber
+abbrev Bounded : Num → Type 0
+Bounded (Bad f) = Unit {0}
+Bounded (Got v next) = v ≤ mostNumber
 
-small-got : (t : Bool) (v next : ℕ) (f : Fault) → (t ≡ true → v ≤ mostNumber) → Small (cond t (Got v next) (Bad f))
+small-got : (t : Bool) (v next : ℕ) (f : Fault) → (t ≡ true → v ≤ mostNumber) → Bounded (cond t (Got v next) (Bad f))
 small-got true v next f h = h refl
 small-got false v next f h = tt
 
-small-or : (t : Bool) (n : Num) (f : Fault) → Small n → Small (cond t n (Bad f))
+small-or : (t : Bool) (n : Num) (f : Fault) → Bounded n → Bounded (cond t n (Bad f))
 small-or true n f h = h
 small-or false n f h = tt
 
-small-form : (at : ℕ) (t : List ℕ) (n : ℕ) → Small (formAt at t n)
+small-form : (at : ℕ) (t : List ℕ) (n : ℕ) → Bounded (formAt at t n)
 unfolding formAt formed
 small-form at t n =
     small-got (ltb n mostBytes && shortest t n && leb (valueOf t n) mostNumber) (valueOf t n) (at + n + 1) Form
     (λ h. leb-true (valueOf t n) mostNumber (right (ltb n mostBytes && shortest t n) (leb (valueOf t n) mostNumber) h))
 
-small-number : (s : List ℕ) (at : ℕ) → Small (numberAt s at)
+small-number : (s : List ℕ) (at : ℕ) → Bounded (numberAt s at)
 unfolding numberAt headAt
 small-number s at =
     small-or (ltb (lead (drop at s)) (length (drop at s))) (formAt at (drop at s) (lead (drop at s))) Cut
     (small-form at (drop at s) (lead (drop at s)))
 
 pub number-small : (s : List ℕ) (at v next : ℕ) (n : Num) → n ≡ numberAt s at → n ≡ Got v next → v ≤ mostNumber
-number-small s at v next n h e = subst Small (sym h ∙ e) (small-number s at)
+number-small s at v next n h e = subst Bounded (sym h ∙ e) (small-number s at)
 
 -- a count, from what the number reader answered
 module _ (s : List ℕ) (at : ℕ) (n : Num) (h : n ≡ numberAt s at) where
@@ -160,15 +162,15 @@ module _ (f : ℕ → ℕ → Operation → Parse) (n i at : ℕ) (op : Operatio
       rw e
 
 -- what holds at each number of a range holds at one that lies in it
-abbrev pub Each : (ℕ → Type 0) → ℕ → ℕ → Type 0
-Each P lo zero = Unit {0}
-Each P lo (suc n) = P lo × Each P (lo + 1) n
+abbrev pub Throughout : (ℕ → Type 0) → ℕ → ℕ → Type 0
+Throughout P lo zero = Unit {0}
+Throughout P lo (suc n) = P lo × Throughout P (lo + 1) n
 
 split : (lo c : ℕ) → lo ≤ c → Dec (lo + 1 ≤ c) → (c ≡ lo) ⊎ (lo + 1 ≤ c)
 split lo c h (yes p) = inr p
 split lo c h (no p) = inl (omega arith)
 
-pub each-at : (P : ℕ → Type 0) (n lo c : ℕ) → lo ≤ c → c < lo + n → Each P lo n → P c
+pub each-at : (P : ℕ → Type 0) (n lo c : ℕ) → lo ≤ c → c < lo + n → Throughout P lo n → P c
 each-at P zero lo c h k e = absurd (omega arith)
 each-at P (suc n) lo c h k e =
     ⊎-elim (λ q. rw q (e .0)) (λ q. each-at P n (lo + 1) c q (omega arith) (e .1)) (split lo c h (decLe (lo + 1) c))
@@ -196,17 +198,17 @@ module _ (s : List ℕ) (code at : ℕ) where
   abbrev As : (ℕ → List ℕ → ℕ → Parse) → ℕ → Type 0
   As f n = f code s at ≡ only (leb 1 n && leb n mostCode) (arguments (familyOf n) (actorOf n) code s at)
 
-  arm : (f : ℕ → List ℕ → ℕ → Parse) (n lo : ℕ) → lo ≤ code → code < lo + n → Each (As f) lo n
+  arm : (f : ℕ → List ℕ → ℕ → Parse) (n lo : ℕ) → lo ≤ code → code < lo + n → Throughout (As f) lo n
       → f code s at ≡ afterCode s code at
   unfolding afterCode
   arm f n lo h k e = each-at (As f) n lo code h k e
 
-  pub write-arm : {r : Parse} → 1 ≤ code → code ≤ 2 → r ≡ writing code s at → r ≡ afterCode s code at
-  unfolding only
+  pub write-arm : {r : Parse} → 1 ≤ code → code ≤ 2 → r ≡ counted Item code s at → r ≡ afterCode s code at
+  unfolding only counted element beforeElements writing
   write-arm h k p = p ∙ arm writing 2 1 h (omega arith) (refl, (refl, tt))
 
-  pub copy-arm : {r : Parse} → 3 ≤ code → code ≤ 4 → r ≡ copying code s at → r ≡ afterCode s code at
-  unfolding only
+  pub copy-arm : {r : Parse} → 3 ≤ code → code ≤ 4 → r ≡ counted Pair code s at → r ≡ afterCode s code at
+  unfolding only counted element beforeElements copying
   copy-arm h k p = p ∙ arm copying 2 3 h (omega arith) (refl, (refl, tt))
 
   pub partitioning-arm : {r : Parse} → 5 ≤ code → code ≤ 6 → r ≡ partitioning code s at → r ≡ afterCode s code at
@@ -217,8 +219,8 @@ module _ (s : List ℕ) (code at : ℕ) where
   unfolding only
   activate-arm h k p = p ∙ arm activating 2 7 h (omega arith) (refl, (refl, tt))
 
-  pub list-arm : {r : Parse} → (code ≡ 9) ⊎ (code ≡ 12) → r ≡ listing code s at → r ≡ afterCode s code at
-  unfolding only
+  pub list-arm : {r : Parse} → (code ≡ 9) ⊎ (code ≡ 12) → r ≡ counted Object code s at → r ≡ afterCode s code at
+  unfolding only counted element beforeElements listing
   list-arm h p =
       p ∙ ⊎-elim (λ (e : code ≡ 9). arm listing 1 9 (omega arith) (omega arith) (refl, tt))
       (λ (e : code ≡ 12). arm listing 1 12 (omega arith) (omega arith) (refl, tt)) h
@@ -236,28 +238,28 @@ module _ (s : List ℕ) (code at : ℕ) where
   other-arm h p = rw (p, le-leb 1 code (omega arith), lt-leb code mostCode h)
 
 -- the whole operation: its code, what follows, and nothing left over
-abbrev pub Answers : Parsed → List ℕ → Type 0
-Answers r s = (r .answer ≡ (readOperation s) .0) × (r .operation ≡ (readOperation s) .1)
+abbrev pub AnswersAs : Parsed → List ℕ → Type 0
+AnswersAs r s = (r .answer ≡ (readOperation s) .0) × (r .operation ≡ (readOperation s) .1)
 
 abbrev pub Refuses : Parsed → Type 0
 Refuses r = (r .answer ≡ 10) × (r .operation ≡ unread)
 
 module _ (s : List ℕ) {f : Num} (h : f ≡ numberAt s 0) {r : Parsed} where
-  pub whole-bad : {q : Fault} → f ≡ Bad q → Refuses r → Answers r s
+  pub whole-bad : {q : Fault} → f ≡ Bad q → Refuses r → AnswersAs r s
   unfolding readOperation taken refused ended
   whole-bad e p = rw (← h, e) p
 
   module _ {code at : ℕ} {parse : Parse} (e : f ≡ Got code at) (g : parse ≡ afterCode s code at) where
-    pub whole-stop : (parse .answer ≡ 0 → ⊥) → Refuses r → Answers r s
+    pub whole-stop : (parse .answer ≡ 0 → ⊥) → Refuses r → AnswersAs r s
     unfolding readOperation taken ended
     whole-stop z p = rw (← h, e) (rw (← g, ne-eqb (parse .answer) 0 z) p)
 
-    pub whole-left : parse .answer ≡ 0 → (parse .at ≡ length s → ⊥) → Refuses r → Answers r s
+    pub whole-left : parse .answer ≡ 0 → (parse .at ≡ length s → ⊥) → Refuses r → AnswersAs r s
     unfolding readOperation taken ended
     whole-left z l p = rw (← h, e) (rw (← g, z, ne-eqb (parse .at) (length s) l) p)
 
     pub whole-read : parse .answer ≡ 0 → parse .at ≡ length s → r .answer ≡ 0 → r .operation ≡ parse .operation
-        → Answers r s
+        → AnswersAs r s
     unfolding readOperation taken ended
     whole-read z l p q = rw (← h, e) (rw (← g, z, eq-eqb (parse .at) (length s) l) (p, q))
 
