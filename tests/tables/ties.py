@@ -12,8 +12,8 @@ CODES = "crates/operation/src/codes.rt"
 FAMILIES = {"Write": "write", "Copy": "read", "Create": "create", "Destroy": "destroy", "Activate": "activate",
             "Deactivate": "deactivate"}
 ACTORS = {"Driver": "driver", "Device": "card", "External": "nobody"}
-READERS = {"read_write": "who, items", "read_copy": "who, pairs", "read_partition": "where",
-           "read_activation": "who, where", "read_list": "where, objects", "read_deactivation": "who"}
+READERS = {"Item": "who, items", "Pair": "who, pairs", "read_partition": "where", "read_activation": "who, where",
+           "Object": "where, objects", "read_deactivation": "who"}
 # A figure of a manual: three digits or more, or with a comma.
 FIGURE = re.compile(r"(?<![\w.])\d{1,3}(?:,\d{3})+(?!\w)|(?<![\w.,])\d{3,}(?!\w)")
 CONSOLE = re.compile(r"^```console[^\n]*\n.*?^```$", re.DOTALL | re.MULTILINE)
@@ -69,16 +69,18 @@ def check_questions():
 
 
 def arms(function):
-    """The arms of a function of crates/operation that is one match over the code: its ranges, and what follows."""
+    """The arms of a function of crates/operation that is one match over the code: its ranges, and what follows, or the
+    kind of elements where it is told one."""
     body = re.search(rf"^(?:pub(?:\(crate\))? )?fn {function}\(.*?match code {{(.*?)^    }}", text_of(CODES),
                      re.DOTALL | re.MULTILINE)
     if not body:
         raise Fault(f"{CODES} has no match over the code in {function}")
-    return re.findall(r"^\s+([\d_][^=]*(?:=\d+)?) => ([\w:]+)", body[1], re.MULTILINE)
+    return [(ranges, element or word) for ranges, word, element in re.findall(
+        r"^\s+([\d_][^=]*(?:=\d+)?) => ([\w:]+)(?:\(s, (Element::\w+))?", body[1], re.MULTILINE)]
 
 
 def chosen(function, code):
-    """The word with which the arm of a code ends or begins: a variant, or the function that is called."""
+    """The word with which the arm of a code ends or begins: a variant, the function that is called, or its elements."""
     for pattern, result in arms(function):
         for part in pattern.split("|"):
             low, _, high = part.strip().partition("..=")
