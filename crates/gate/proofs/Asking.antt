@@ -19,7 +19,7 @@ use Rattle.model.specs.declared.Actor.{Actor}
 use Rattle.model.specs.declared.Actor.the-variants.{Driver, Device, External}
 use Rattle.model.specs.declared.Config.{Config}
 use Rattle.model.specs.declared.Operation.{Operation}
-use Rattle.questions.specs.Items.{upTo}
+use Rattle.questions.specs.Items.{allBelow}
 use Rattle.gate.specs.Ready.{Searchable, Ready, Asked}
 use Rattle.gate.specs.Asking.{stores, leaves, byDevice, pairDescribed, transferOf, itemDescribed, Marks}
 use Rattle.gate.proofs.Readying
@@ -122,8 +122,8 @@ module _ (config : Config) (b : State) (op : Operation) where
   q18-free f External h = refl
 
   pub q18-items : (f : Family) (a : Actor) → byDevice a ≡ true → {r : Bool}
-      → r ≡ upTo (op .count) (itemDescribed config b op f) → r ≡ q18 config b op f a
-  unfolding q18 upTo
+      → r ≡ allBelow (op .count) (itemDescribed config b op f) → r ≡ q18 config b op f a
+  unfolding q18 allBelow
   q18-items f Driver h e = absurd (false≢true h)
   q18-items f Device h e =
       e ∙ below-same (op .count) (itemDescribed config b op f) (transfer config b op f) (same f)

@@ -22,7 +22,7 @@ use Rattle.model.specs.declared.Loaded.{Loaded}
 use Rattle.model.specs.declared.Operation.{Operation}
 use Rattle.model.proofs.Facts.{asked}
 use Rattle.questions.specs.Items.{namesNo, placesNo, firstNo}
-use Rattle.questions.proofs.Laws.{join, judge-first}
+use Rattle.questions.proofs.Judging.{join, judge-first}
 use Rattle.gate.specs.Ready.{Complete, Asked}
 use Rattle.gate.specs.Carried.{carried}
 

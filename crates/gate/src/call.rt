@@ -24,7 +24,14 @@ fn judge_all(config: Config, area: &[u8], room: usize, op: Operation) -> u8
     requires { ⌜ Complete op ⌝ }
     ensures { λ r. ⌜ r ≡ judged config op (view room (now (area .entry))) ⌝ }
 {
-    let q = questions::judge(config, area, room, op);
+    let q = questions::judge(
+        config.counts,
+        &config.objects.kind,
+        &config.objects.class,
+        area,
+        room,
+        op,
+    );
     if q != 0 {
         return q;
     }

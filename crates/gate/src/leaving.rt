@@ -20,7 +20,7 @@ use model::Config;
 use model::Family;
 use model::OBJECT_SLOTS;
 use model::Operation;
-use questions::lookups::number_of;
+use operation::columns::number_of;
 use state::bytes::byte_at;
 
 // A deactivation.

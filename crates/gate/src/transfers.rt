@@ -7,7 +7,7 @@ ghost use Rattle.model.specs.Operation.{mostItems};
 ghost use Rattle.model.specs.Questions.{q18};
 ghost use Rattle.closure.specs.Scene.{Scene};
 ghost use Rattle.closure.specs.Offers.{Offered};
-ghost use Rattle.questions.specs.Items.{upTo};
+ghost use Rattle.questions.specs.Items.{allBelow};
 ghost use Rattle.gate.specs.Ready.{Ready, Complete};
 ghost use Rattle.gate.specs.Asking.{stores, byDevice, todayOf, pairDescribed, transferOf, itemDescribed};
 use closure::offers::is_described;
@@ -17,7 +17,7 @@ use model::Config;
 use model::Family;
 use model::OBJECT_SLOTS;
 use model::Operation;
-use questions::lookups::number_of;
+use operation::columns::number_of;
 use state::look::value;
 
 // A write or a copy.
@@ -102,7 +102,7 @@ fn item_described(
 fn items_described(config: Config, area: &[u8], room: usize, op: Operation, f: Family) -> bool
     requires { ⌜ Ready config room (now area) ⌝ }
     requires { ⌜ op .count ≤ mostItems ⌝ }
-    ensures { λ r. ⌜ r ≡ upTo (op .count) (itemDescribed config (view room (now (area .entry))) op f) ⌝ }
+    ensures { λ r. ⌜ r ≡ allBelow (op .count) (itemDescribed config (view room (now (area .entry))) op f) ⌝ }
 {
     let counts = config.counts;
     let t = config.objects;

@@ -2,14 +2,14 @@
 -- configuration. proofs/Laws has that these are the model's.
 use Prim.Native.Nat.{ℕ}
 use mathlib.Core.List.{List}
-use mathlib.Core.Bool.{Bool, true, not, _&&_, _||_, Bool·beq}
+use mathlib.Core.Bool.{Bool, true, false, not, _&&_, _||_, Bool·beq, cond}
 use lib.ListN.{getD}
 use lib.Dec.{leb, eqb}
 use Rattle.model.specs.Base.{below, all}
 use Rattle.model.specs.Config.{from1to}
 use Rattle.model.specs.State.{mostPartition, State, objectIn}
-use Rattle.model.specs.Operation.{objectAt, secondAt, formAt}
-use Rattle.model.specs.Questions.{namesPartition, q11, q12, q13, q14, q15, q16, q17, ask}
+use Rattle.model.specs.Operation.{objectAt, secondAt}
+use Rattle.model.specs.Questions.{namesPartition, isActive, inactive, q11, q12, q13, q14, q15, q16, q17, ask}
 use Rattle.model.specs.declared.Family.{Family}
 use Rattle.model.specs.declared.Family.the-variants.{Write, Copy, Create, Destroy, Activate, Deactivate}
 use Rattle.model.specs.declared.Actor.{Actor}
@@ -19,8 +19,14 @@ use Rattle.model.specs.declared.Config.{Config}
 use Rattle.model.specs.declared.Operation.{Operation}
 
 -- the model's `below` under a name that stays shut, so that laws match by its arguments
-unfoldable pub upTo : ℕ → (ℕ → Bool) → Bool
-upTo n p = below n p
+unfoldable pub allBelow : ℕ → (ℕ → Bool) → Bool
+allBelow n p = below n p
+
+-- question 15: the partitions of drivers, of devices or of objects
+abbrev pub columnOf : State → Actor → List ℕ
+columnOf b Driver = b .driver
+columnOf b Device = b .device
+columnOf b External = b .object
 
 -- none of a column is p
 unfoldable pub noneIs : ℕ → List ℕ → Bool
@@ -43,8 +49,9 @@ named counts Destroy o v form = true
 named counts Activate o v form = from1to o (counts .objects)
 named counts Deactivate o v form = from1to o (counts .objects)
 
-unfoldable pub itemNamed : Counts → Operation → Family → ℕ → Bool
-itemNamed counts op f i = named counts f (objectAt op i) (secondAt op i) (formAt op i)
+-- item i, by the columns of objects, second numbers and forms
+unfoldable pub itemNamed : Counts → Family → List ℕ → List ℕ → List ℕ → ℕ → Bool
+itemNamed counts f objects seconds forms i = named counts f (getD objects i 0) (getD seconds i 0) (getD forms i 0)
 
 -- question 12, the object that item i changes or moves
 abbrev pub changedIn : List ℕ → List ℕ → Family → ℕ → ℕ
@@ -60,7 +67,7 @@ differs x y = eqb x 0 || not (eqb y x)
 
 -- item i changes no object that an item before it changes
 unfoldable pub apart : List ℕ → List ℕ → Family → ℕ → Bool
-apart objects seconds f i = upTo i (λ j. differs (changedIn objects seconds f i) (changedIn objects seconds f j))
+apart objects seconds f i = allBelow i (λ j. differs (changedIn objects seconds f i) (changedIn objects seconds f j))
 
 -- question 13, of an item: its object's kind and class, its second number and that object's kind, its form
 abbrev pub fits : Family → ℕ → ℕ → ℕ → ℕ → ℕ → Bool
@@ -72,18 +79,20 @@ fits Destroy kind class v other form = true
 fits Activate kind class v other form = not (eqb kind 4) && eqb class 0
 fits Deactivate kind class v other form = not (eqb kind 4) && eqb class 0
 
--- item i, by the columns of kinds and classes
-unfoldable pub itemFitting : List ℕ → List ℕ → Operation → Family → ℕ → Bool
-itemFitting kind class op f i =
-    fits f (getD kind (objectAt op i) 0) (getD class (objectAt op i) 0) (secondAt op i) (getD kind (secondAt op i) 0)
-    (formAt op i)
+-- item i, by the columns of kinds and classes, and by its own
+unfoldable pub itemFitting : List ℕ → List ℕ → Family → List ℕ → List ℕ → List ℕ → ℕ → Bool
+itemFitting kind class f objects seconds forms i =
+    fits f (getD kind (getD objects i 0) 0) (getD class (getD objects i 0) 0) (getD seconds i 0)
+    (getD kind (getD seconds i 0) 0) (getD forms i 0)
 
--- question 16, of a listed object
-unfoldable pub itemInactive : State → Operation → ℕ → Bool
-itemInactive b op i = eqb (objectIn b (objectAt op i)) 0
+-- question 16, of a listed object: it is active, or it is inactive
+unfoldable pub itemActive : State → Operation → Bool → ℕ → Bool
+itemActive b op true i = not (eqb (objectIn b (objectAt op i)) 0)
+itemActive b op false i = eqb (objectIn b (objectAt op i)) 0
 
-unfoldable pub itemActive : State → Operation → ℕ → Bool
-itemActive b op i = not (eqb (objectIn b (objectAt op i)) 0)
+-- the driver or device is active, or all listed objects are; or they are inactive
+abbrev pub activity : State → Operation → Actor → Bool → Bool
+activity b op a wanted = cond wanted (isActive b op a) (inactive b op a)
 
 -- question 17, of an item: the partitions of its object and of its second number's
 abbrev pub inside : Family → ℕ → ℕ → ℕ → ℕ → Bool
@@ -97,6 +106,16 @@ inside Deactivate p mine v other = eqb mine p
 unfoldable pub itemInside : State → Operation → Family → ℕ → ℕ → Bool
 itemInside b op f p i =
     inside f p (objectIn b (objectAt op i)) (secondAt op i) (objectIn b (secondAt op i))
+
+-- the configuration m with the counts, kinds and classes by which an operation is judged
+abbrev pub judgedBy : Config → Counts → List ℕ → List ℕ → Config
+judgedBy m counts kind class =
+    record {
+      counts = counts;
+      objects = record { kind = kind; class = class; owner = m .objects .owner };
+      devices = m .devices;
+      values = m .values;
+    }
 
 -- the number of the first of the questions 11 to 13, of 14 to 17, and of all these that is answered with no; else the
 -- rest

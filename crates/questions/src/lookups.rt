@@ -1,6 +1,5 @@
-// Single numbers out of columns; whatever is not there is 0. And the answer to a question.
+// What the questions share: a number's range, and the answer to a question.
 ghost use mathlib.Core.Path.{_≡_};
-ghost use lib.ListN.{getD};
 ghost use Rattle.model.specs.Config.{from1to};
 ghost use Rattle.model.specs.Questions.{ask};
 
@@ -16,25 +15,4 @@ pub(crate) fn from_1_to(n: usize, high: u8) -> bool
     ensures { λ r. ⌜ r ≡ from1to n high ⌝ }
 {
     (1 <= n) & (n <= (high as usize))
-}
-
-// The byte at place i.
-pub(crate) fn byte_at(s: &[u8], i: usize) -> u8
-    ensures { λ r. ⌜ r ≡ getD (now (s .entry)) i 0 ⌝ }
-{
-    if i < s.len() { s[i] } else { 0 }
-}
-
-// A number of an operation, as wide as a place.
-fn wide(n: u32) -> usize
-    ensures { λ r. ⌜ r ≡ n ⌝ }
-{
-    n as usize
-}
-
-// The number at place i of an operation's column.
-pub fn number_of(s: &[u32], i: usize) -> usize
-    ensures { λ r. ⌜ r ≡ getD (now (s .entry)) i 0 ⌝ }
-{
-    if i < s.len() { wide(s[i]) } else { 0 }
 }

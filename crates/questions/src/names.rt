@@ -1,21 +1,20 @@
 // Questions 11, 12 and 13: what an operation names, by the configuration.
 ghost use mathlib.Core.Path.{_≡_};
-ghost use Rattle.model.specs.Questions.{q11, q12, q13};
-ghost use Rattle.questions.specs.Items.{upTo, actorNamed, partitionNamed, named, itemNamed};
-ghost use Rattle.questions.specs.Items.{changedIn, apart, fits, itemFitting, namesNo};
+ghost use Rattle.model.specs.declared.Config.{Config};
+ghost use Rattle.questions.specs.Items.{allBelow, actorNamed, partitionNamed, named, itemNamed};
+ghost use Rattle.questions.specs.Items.{changedIn, apart, fits, itemFitting, judgedBy, namesNo};
 use crate::lookups::ask;
-use crate::lookups::byte_at;
 use crate::lookups::from_1_to;
-use crate::lookups::number_of;
 use model::Actor;
-use model::Config;
 use model::Counts;
 use model::EXTERNAL_CLASS;
 use model::Family;
 use model::HARDCODED_KIND;
 use model::Operation;
 use model::TRANSFER_KIND;
+use operation::columns::number_of;
 use state::MOST_PARTITION;
+use state::bytes::byte_at;
 
 // The driver or device s exists, where the code names one.
 fn actor_named(counts: Counts, a: Actor, s: usize) -> bool
@@ -62,32 +61,28 @@ fn item_named(counts: Counts, f: Family, o: usize, v: usize, form: usize) -> boo
 }
 
 // Every item does.
-fn items_named(counts: Counts, op: Operation, f: Family) -> bool
-    ensures { λ r. ⌜ r ≡ upTo (op .count) (itemNamed counts op f) ⌝ }
+fn items_named<'a>(
+    counts: Counts,
+    f: Family,
+    objects: &'a [u32],
+    seconds: &'a [u32],
+    forms: &'a [u32],
+    n: usize,
+) -> bool
+    ensures { λ r.
+        ⌜ r ≡ allBelow n (itemNamed counts f (now (objects .entry)) (now (seconds .entry)) (now (forms .entry))) ⌝ }
 {
-    let n = op.count;
     let mut i = 0;
     while i < n {
-        let o = number_of(&op.objects, i);
-        let v = number_of(&op.seconds, i);
-        let form = number_of(&op.forms, i);
+        let o = number_of(objects, i);
+        let v = number_of(seconds, i);
+        let form = number_of(forms, i);
         if !item_named(counts, f, o, v, form) {
             return false;
         }
         i += 1;
     }
     true
-}
-
-// 11: every driver, device, object and value named exists, and every partition is 1 to 63.
-pub fn exist(config: Config, op: Operation, f: Family, a: Actor) -> bool
-    ensures { λ r. ⌜ r ≡ q11 config op f a ⌝ }
-{
-    let counts = config.counts;
-    let actor = actor_named(counts, a, op.subject);
-    let partition = partition_named(f, a, op.partition);
-    let items = items_named(counts, op, f);
-    actor & partition & items
 }
 
 // The object that item i changes or moves.
@@ -121,14 +116,13 @@ fn item_apart<'a>(objects: &'a [u32], seconds: &'a [u32], f: Family, i: usize) -
     true
 }
 
-// 12: no target, destination or listed object is named twice.
-pub fn are_apart(op: Operation, f: Family) -> bool
-    ensures { λ r. ⌜ r ≡ q12 op f ⌝ }
+// No item changes an object that another changes.
+fn items_apart<'a>(objects: &'a [u32], seconds: &'a [u32], f: Family, n: usize) -> bool
+    ensures { λ r. ⌜ r ≡ allBelow n (apart (now (objects .entry)) (now (seconds .entry)) f) ⌝ }
 {
-    let n = op.count;
     let mut i = 0;
     while i < n {
-        if !item_apart(&op.objects, &op.seconds, f, i) {
+        if !item_apart(objects, seconds, f, i) {
             return false;
         }
         i += 1;
@@ -154,15 +148,24 @@ fn item_fits(f: Family, kind: u8, class: u8, v: usize, other: u8, form: usize) -
 }
 
 // Those of every item.
-fn items_fit<'a>(kind: &'a [u8], class: &'a [u8], op: Operation, f: Family) -> bool
-    ensures { λ r. ⌜ r ≡ upTo (op .count) (itemFitting (now (kind .entry)) (now (class .entry)) op f) ⌝ }
+fn items_fit<'a>(
+    kind: &'a [u8],
+    class: &'a [u8],
+    f: Family,
+    objects: &'a [u32],
+    seconds: &'a [u32],
+    forms: &'a [u32],
+    n: usize,
+) -> bool
+    ensures { λ r.
+        ⌜ r ≡ allBelow n (itemFitting (now (kind .entry)) (now (class .entry)) f (now (objects .entry))
+        (now (seconds .entry)) (now (forms .entry))) ⌝ }
 {
-    let n = op.count;
     let mut i = 0;
     while i < n {
-        let o = number_of(&op.objects, i);
-        let v = number_of(&op.seconds, i);
-        let form = number_of(&op.forms, i);
+        let o = number_of(objects, i);
+        let v = number_of(seconds, i);
+        let form = number_of(forms, i);
         let k = byte_at(kind, o);
         let c = byte_at(class, o);
         let other = byte_at(kind, v);
@@ -174,20 +177,25 @@ fn items_fit<'a>(kind: &'a [u8], class: &'a [u8], op: Operation, f: Family) -> b
     true
 }
 
-// 13: kinds fit.
-pub fn kinds_fit(config: Config, op: Operation, f: Family) -> bool
-    ensures { λ r. ⌜ r ≡ q13 config op f ⌝ }
+// The number of the first of these questions that is answered with no, or 0. 11: every driver, device, object and value
+// named exists, and every partition is 1 to 63. 12: no target, destination or listed object is named twice. 13: kinds
+// fit. The operation is taken apart here, once.
+pub fn judge_names<'a>(
+    counts: Counts,
+    kind: &'a [u8],
+    class: &'a [u8],
+    op: Operation,
+    f: Family,
+    a: Actor,
+) -> u8
+    ensures { λ r.
+        ⌜ ((m : Config) → r ≡ namesNo (judgedBy m counts (now (kind .entry)) (now (class .entry))) op f a 0) ⌝ }
 {
-    let t = config.objects;
-    items_fit(&t.kind, &t.class, op, f)
-}
-
-// The number of the first of these questions that is answered with no, or 0.
-pub fn judge_names(config: Config, op: Operation, f: Family, a: Actor) -> u8
-    ensures { λ r. ⌜ r ≡ namesNo config op f a 0 ⌝ }
-{
-    let q11 = exist(config, op, f, a);
-    let q12 = are_apart(op, f);
-    let q13 = kinds_fit(config, op, f);
-    ask(11, q11, ask(12, q12, ask(13, q13, 0)))
+    let n = op.count;
+    let actor = actor_named(counts, a, op.subject);
+    let partition = partition_named(f, a, op.partition);
+    let items = items_named(counts, f, &op.objects, &op.seconds, &op.forms, n);
+    let q12 = items_apart(&op.objects, &op.seconds, f, n);
+    let q13 = items_fit(kind, class, f, &op.objects, &op.seconds, &op.forms, n);
+    ask(11, actor & partition & items, ask(12, q12, ask(13, q13, 0)))
 }

@@ -2,13 +2,15 @@
 ghost use mathlib.Core.Path.{_≡_};
 ghost use lib.ListN.{length};
 ghost use Rattle.model.specs.State.{areaLength, view};
-ghost use Rattle.model.specs.Questions.{q14, q15, q16, q17, nothingIn, inactive, isActive};
-ghost use Rattle.questions.specs.Items.{upTo, noneIs, itemInactive, itemActive, inside, itemInside, placesNo};
+ghost use Rattle.model.specs.Base.{nth};
+ghost use Rattle.model.specs.Questions.{q14, q15, q16, q17, nothingIn};
+ghost use Rattle.questions.specs.Items.{allBelow, columnOf, noneIs, itemActive, activity, inside, itemInside};
+ghost use Rattle.questions.specs.Items.{placesNo};
 use crate::lookups::ask;
-use crate::lookups::number_of;
 use model::Actor;
 use model::Family;
 use model::Operation;
+use operation::columns::number_of;
 use state::DEVICE_BYTES;
 use state::DRIVER_BYTES;
 use state::EXISTING;
@@ -37,46 +39,27 @@ pub fn status_fits(area: &[u8], room: usize, op: Operation, f: Family, a: Actor)
     }
 }
 
-// No driver is in partition p.
-fn no_driver_in(area: &[u8], room: usize, p: usize) -> bool
+// The partition of driver n, of device n or of object n.
+fn partition_of(area: &[u8], room: usize, a: Actor, n: usize) -> u8
     requires { ⌜ length (now area) ≡ areaLength room ⌝ }
-    ensures { λ r. ⌜ r ≡ noneIs p ((view room (now (area .entry))) .driver) ⌝ }
+    ensures { λ r. ⌜ r ≡ nth (columnOf (view room (now (area .entry))) a) n 0 ⌝ }
 {
-    let mut i = 0;
-    while i < DRIVER_BYTES {
-        let q = driver(area, room, i + 1) as usize;
-        if q == p {
-            return false;
-        }
-        i += 1;
+    match a {
+        Actor::Driver => driver(area, room, n),
+        Actor::Device => device(area, room, n),
+        Actor::External => object(area, room, n),
     }
-    true
 }
 
-// No device is in partition p.
-fn no_device_in(area: &[u8], room: usize, p: usize) -> bool
+// No driver, no device or no object, of which the area has `many`, is in partition p.
+fn none_in(area: &[u8], room: usize, a: Actor, many: usize, p: usize) -> bool
     requires { ⌜ length (now area) ≡ areaLength room ⌝ }
-    ensures { λ r. ⌜ r ≡ noneIs p ((view room (now (area .entry))) .device) ⌝ }
+    requires { ⌜ many ≡ length (columnOf (view room (now area)) a) ⌝ }
+    ensures { λ r. ⌜ r ≡ noneIs p (columnOf (view room (now (area .entry))) a) ⌝ }
 {
     let mut i = 0;
-    while i < DEVICE_BYTES {
-        let q = device(area, room, i + 1) as usize;
-        if q == p {
-            return false;
-        }
-        i += 1;
-    }
-    true
-}
-
-// No object is in partition p.
-fn no_object_in(area: &[u8], room: usize, p: usize) -> bool
-    requires { ⌜ length (now area) ≡ areaLength room ⌝ }
-    ensures { λ r. ⌜ r ≡ noneIs p ((view room (now (area .entry))) .object) ⌝ }
-{
-    let mut i = 0;
-    while i < room {
-        let q = object(area, room, i + 1) as usize;
+    while i < many {
+        let q = partition_of(area, room, a, i + 1) as usize;
         if q == p {
             return false;
         }
@@ -90,9 +73,9 @@ fn nothing_in(area: &[u8], room: usize, p: usize) -> bool
     requires { ⌜ length (now area) ≡ areaLength room ⌝ }
     ensures { λ r. ⌜ r ≡ nothingIn (view room (now (area .entry))) p ⌝ }
 {
-    let d = no_driver_in(area, room, p);
-    let c = no_device_in(area, room, p);
-    let o = no_object_in(area, room, p);
+    let d = none_in(area, room, Actor::Driver, DRIVER_BYTES, p);
+    let c = none_in(area, room, Actor::Device, DEVICE_BYTES, p);
+    let o = none_in(area, room, Actor::External, room, p);
     d & c & o
 }
 
@@ -111,17 +94,18 @@ pub fn left_empty(area: &[u8], room: usize, op: Operation, f: Family) -> bool
     }
 }
 
-// All listed objects are inactive.
-fn items_inactive(area: &[u8], room: usize, op: Operation) -> bool
+// All listed objects are active, or inactive, as wanted.
+fn items_active(area: &[u8], room: usize, op: Operation, wanted: bool) -> bool
     requires { ⌜ length (now area) ≡ areaLength room ⌝ }
-    ensures { λ r. ⌜ r ≡ upTo (op .count) (itemInactive (view room (now (area .entry))) op) ⌝ }
+    ensures { λ r. ⌜ r ≡ allBelow (op .count) (itemActive (view room (now (area .entry))) op wanted) ⌝ }
 {
     let n = op.count;
     let mut i = 0;
     while i < n {
         let o = number_of(&op.objects, i);
         let q = object(area, room, o);
-        if q != 0 {
+        let fits = (q != 0) == wanted;
+        if !fits {
             return false;
         }
         i += 1;
@@ -129,45 +113,15 @@ fn items_inactive(area: &[u8], room: usize, op: Operation) -> bool
     true
 }
 
-// All listed objects are active.
-fn items_active(area: &[u8], room: usize, op: Operation) -> bool
+// The driver or device is active, or all listed objects are; or all are inactive, as wanted.
+fn is_active(area: &[u8], room: usize, op: Operation, a: Actor, wanted: bool) -> bool
     requires { ⌜ length (now area) ≡ areaLength room ⌝ }
-    ensures { λ r. ⌜ r ≡ upTo (op .count) (itemActive (view room (now (area .entry))) op) ⌝ }
-{
-    let n = op.count;
-    let mut i = 0;
-    while i < n {
-        let o = number_of(&op.objects, i);
-        let q = object(area, room, o);
-        if q == 0 {
-            return false;
-        }
-        i += 1;
-    }
-    true
-}
-
-// The driver or device is inactive, or all listed objects are.
-fn is_inactive(area: &[u8], room: usize, op: Operation, a: Actor) -> bool
-    requires { ⌜ length (now area) ≡ areaLength room ⌝ }
-    ensures { λ r. ⌜ r ≡ inactive (view room (now (area .entry))) op a ⌝ }
+    ensures { λ r. ⌜ r ≡ activity (view room (now (area .entry))) op a wanted ⌝ }
 {
     match a {
-        Actor::Driver => driver(area, room, op.subject) == 0,
-        Actor::Device => device(area, room, op.subject) == 0,
-        Actor::External => items_inactive(area, room, op),
-    }
-}
-
-// The driver or device is active, or all listed objects are.
-fn is_active(area: &[u8], room: usize, op: Operation, a: Actor) -> bool
-    requires { ⌜ length (now area) ≡ areaLength room ⌝ }
-    ensures { λ r. ⌜ r ≡ isActive (view room (now (area .entry))) op a ⌝ }
-{
-    match a {
-        Actor::Driver => driver(area, room, op.subject) != 0,
-        Actor::Device => device(area, room, op.subject) != 0,
-        Actor::External => items_active(area, room, op),
+        Actor::Driver => (driver(area, room, op.subject) != 0) == wanted,
+        Actor::Device => (device(area, room, op.subject) != 0) == wanted,
+        Actor::External => items_active(area, room, op, wanted),
     }
 }
 
@@ -177,12 +131,12 @@ pub fn activity_fits(area: &[u8], room: usize, op: Operation, f: Family, a: Acto
     ensures { λ r. ⌜ r ≡ q16 (view room (now (area .entry))) op f a ⌝ }
 {
     match f {
-        Family::Write => is_active(area, room, op, a),
-        Family::Copy => is_active(area, room, op, a),
+        Family::Write => is_active(area, room, op, a, true),
+        Family::Copy => is_active(area, room, op, a, true),
         Family::Create => true,
         Family::Destroy => true,
-        Family::Activate => is_inactive(area, room, op, a),
-        Family::Deactivate => is_active(area, room, op, a),
+        Family::Activate => is_active(area, room, op, a, false),
+        Family::Deactivate => is_active(area, room, op, a, true),
     }
 }
 
@@ -203,7 +157,7 @@ fn item_inside(f: Family, p: usize, mine: usize, v: usize, other: usize) -> bool
 // Every item is in partition p.
 fn items_inside(area: &[u8], room: usize, op: Operation, f: Family, p: usize) -> bool
     requires { ⌜ length (now area) ≡ areaLength room ⌝ }
-    ensures { λ r. ⌜ r ≡ upTo (op .count) (itemInside (view room (now (area .entry))) op f p) ⌝ }
+    ensures { λ r. ⌜ r ≡ allBelow (op .count) (itemInside (view room (now (area .entry))) op f p) ⌝ }
 {
     let n = op.count;
     let mut i = 0;

@@ -1,6 +1,6 @@
 -- `questions::judge` meets its contract: the first group ends it, or the second answers. Assumes nothing.
 use borrow.Author.Needs.{needs}
-use Rattle.questions.proofs.Laws
+use Rattle.questions.proofs.Judging
 use Rattle.questions.proofs.judge.Statement.{statement}
 use Rattle.questions.proofs.judge.Tie as tie
 
@@ -14,17 +14,17 @@ judge-names-requires : tie.Need-judge-names-requires
 judge-names-requires c κs = search needs
 
 returns : tie.Need-returns
-returns c =
-    Laws.names-first _ _ _ (c .before .before .before .family-of .ensures) (c .before .before .actor-of .ensures)
-    (c .before .judge-names .ensures) (c .if1 .taken)
+returns c m =
+    Judging.names-first _ _ _ (c .before .before .before .family-of .ensures) (c .before .before .actor-of .ensures)
+    (c .before .judge-names .ensures m) (c .if1 .taken)
 
 judge-places-requires : tie.Need-judge-places-requires
 judge-places-requires c κs = search needs
 
 returns-2 : tie.Need-returns-2
-returns-2 c =
-    Laws.places-first _ _ _ (c .before .before .before .before .family-of .ensures)
-    (c .before .before .before .actor-of .ensures) (c .before .before .judge-names .ensures) (c .before .if1 .left)
+returns-2 c m =
+    Judging.places-first _ _ _ (c .before .before .before .before .family-of .ensures)
+    (c .before .before .before .actor-of .ensures) (c .before .before .judge-names .ensures m) (c .before .if1 .left)
     (c .judge-places .ensures)
 
 pub judge-spec : {M : Type 1} → statement M

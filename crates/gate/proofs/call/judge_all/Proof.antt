@@ -6,10 +6,13 @@ use Rattle.gate.proofs.call.judge_all.Statement.{statement}
 use Rattle.gate.proofs.call.judge_all.Tie as tie
 
 judge-requires : tie.Need-judge-requires
-judge-requires c κs = c .before .pre .0 .long
+judge-requires c κs = c .before .before .before .before .before .before .before .pre .0 .long
 
 returns : tie.Need-returns
-returns c = Calling.no-first _ _ _ (c .before .judge .ensures) (c .if1 .taken)
+returns c =
+    let j = c .before in
+    let a = j .before .before .before .before .before .before .before .before in
+    Calling.no-first _ _ _ (j .judge .ensures (a .args .t1)) (c .if1 .taken)
 
 family-of-requires : tie.Need-family-of-requires
 family-of-requires c κs = search needs
@@ -18,54 +21,62 @@ actor-of-requires : tie.Need-actor-of-requires
 actor-of-requires c κs = search needs
 
 are-described-requires : tie.Need-are-described-requires
-are-described-requires c κs = let a = c .before .before .before .before .before in (a .pre .0, a .pre .1)
+are-described-requires c κs =
+    let j = c .before .before .before in
+    let a = j .before .before .before .before .before .before .before .before in (a .pre .0, a .pre .1)
 
 returns-2 : tie.Need-returns-2
 returns-2 c =
-    Calling.no-18 _ _ _ (c .before .before .before .before .before .judge .ensures)
-    (c .before .before .before .before .if1 .left) (c .before .before .before .family-of .ensures)
+    let c₁ = c .before .before .before in let j = c₁ .before .before in
+    let a = j .before .before .before .before .before .before .before .before in
+    Calling.no-18 _ _ _ (j .judge .ensures (a .args .t1)) (c₁ .before .if1 .left) (c₁ .family-of .ensures)
     (c .before .before .actor-of .ensures) (c .before .are-described .ensures) (not-true _ (c .if2 .taken))
 
 stays-confined-requires : tie.Need-stays-confined-requires
 stays-confined-requires c κs =
-    let c₁ = c .before .before .before in let a = c₁ .before .before .before .before in (
+    let c₁ = c .before .before .before in let j = c₁ .before .before in
+    let a = j .before .before .before .before .before .before .before .before in (
       a .pre .0,
-      Calling.asked-of _ _ _ (c₁ .before .before .judge .ensures) (c₁ .before .if1 .left)
+      Calling.asked-of _ _ _ (j .judge .ensures (a .args .t1)) (c₁ .before .if1 .left)
           (c₁ .family-of .ensures) (c .before .before .actor-of .ensures) (a .pre .1),
     )
 
 returns-3 : tie.Need-returns-3
 returns-3 c =
-    let c₁ = c .before .before .before in let c₂ = c₁ .before .before .before in
-    Calling.no-19 _ _ _ (c₂ .before .judge .ensures) (c₂ .if1 .left) (c₁ .before .before .family-of .ensures)
+    let c₁ = c .before .before .before in let c₂ = c₁ .before .before .before in let j = c₂ .before in
+    let a = j .before .before .before .before .before .before .before .before in
+    Calling.no-19 _ _ _ (j .judge .ensures (a .args .t1)) (c₂ .if1 .left) (c₁ .before .before .family-of .ensures)
     (c₁ .before .actor-of .ensures) (c₁ .are-described .ensures) (not-false _ (c .before .before .if2 .left))
     (c .before .stays-confined .ensures) (not-true _ (c .if3 .taken))
 
 stays-unnamed-requires : tie.Need-stays-unnamed-requires
 stays-unnamed-requires c κs =
-    let c₁ = c .before .before .before .before in let c₂ = c₁ .before .before .before in let a = c₂ .before .before in (
+    let c₁ = c .before .before .before .before in let j = c₁ .before .before .before in
+    let a = j .before .before .before .before .before .before .before .before in (
       a .pre .0,
-      Calling.asked-of _ _ _ (c₂ .judge .ensures) (c₁ .before .before .if1 .left)
+      Calling.asked-of _ _ _ (j .judge .ensures (a .args .t1)) (c₁ .before .before .if1 .left)
           (c₁ .before .family-of .ensures) (c₁ .actor-of .ensures) (a .pre .1),
     )
 
 returns-4 : tie.Need-returns-4
 returns-4 c =
     let c₁ = c .before .before .before in let c₂ = c₁ .before .before .before in
-    let c₃ = c₂ .before .before .before in
-    Calling.all-yes _ _ _ (c₃ .judge .ensures) (c₂ .before .before .if1 .left) (c₂ .before .family-of .ensures)
-    (c₂ .actor-of .ensures) (c₁ .before .before .are-described .ensures) (not-false _ (c₁ .before .if2 .left))
-    (c₁ .stays-confined .ensures) (not-false _ (c .before .before .if3 .left)) (c .before .stays-unnamed .ensures)
-    (c .if4 .taken)
+    let j = c₂ .before .before .before in
+    let a = j .before .before .before .before .before .before .before .before in
+    Calling.all-yes _ _ _ (j .judge .ensures (a .args .t1)) (c₂ .before .before .if1 .left)
+    (c₂ .before .family-of .ensures) (c₂ .actor-of .ensures) (c₁ .before .before .are-described .ensures)
+    (not-false _ (c₁ .before .if2 .left)) (c₁ .stays-confined .ensures) (not-false _ (c .before .before .if3 .left))
+    (c .before .stays-unnamed .ensures) (c .if4 .taken)
 
 returns-5 : tie.Need-returns-5
 returns-5 c =
     let c₁ = c .before .before .before in let c₂ = c₁ .before .before .before in
-    let c₃ = c₂ .before .before .before in
-    Calling.no-20 _ _ _ (c₃ .judge .ensures) (c₂ .before .before .if1 .left) (c₂ .before .family-of .ensures)
-    (c₂ .actor-of .ensures) (c₁ .before .before .are-described .ensures) (not-false _ (c₁ .before .if2 .left))
-    (c₁ .stays-confined .ensures) (not-false _ (c .before .before .if3 .left)) (c .before .stays-unnamed .ensures)
-    (c .if4 .left)
+    let j = c₂ .before .before .before in
+    let a = j .before .before .before .before .before .before .before .before in
+    Calling.no-20 _ _ _ (j .judge .ensures (a .args .t1)) (c₂ .before .before .if1 .left)
+    (c₂ .before .family-of .ensures) (c₂ .actor-of .ensures) (c₁ .before .before .are-described .ensures)
+    (not-false _ (c₁ .before .if2 .left)) (c₁ .stays-confined .ensures) (not-false _ (c .before .before .if3 .left))
+    (c .before .stays-unnamed .ensures) (c .if4 .left)
 
 pub judge-all-spec : {M : Type 1} → statement M
 judge-all-spec =

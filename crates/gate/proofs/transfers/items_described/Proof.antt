@@ -10,8 +10,8 @@ use Rattle.model.specs.State.{view}
 use Rattle.closure.specs.Scene.{Scene}
 use Rattle.closure.specs.Offers.{Offered}
 use Rattle.gate.specs.Asking.{itemDescribed, todayOf}
-use Rattle.questions.specs.Items.{upTo}
-use Rattle.questions.proofs.Laws
+use Rattle.questions.specs.Items.{allBelow}
+use Rattle.questions.proofs.Judging
 use Rattle.gate.proofs.Asking
 use Rattle.gate.proofs.transfers.items_described.Statement.{statement}
 use Rattle.gate.proofs.transfers.items_described.Tie as tie
@@ -20,7 +20,7 @@ abbrev Inv-loop : tie.InvT-loop
 Inv-loop area room f op t table n i₀ i =
     (i ≤ n) × (n ≤ mostItems)
     × ((m : Scene) → Offered (todayOf m (t .kind) (view room area)) (op .subject) table
-    → upTo i (itemDescribed (todayOf m (t .kind) (view room area) .config) (view room area) op f) ≡ true)
+    → allBelow i (itemDescribed (todayOf m (t .kind) (view room area) .config) (view room area) op f) ≡ true)
 
 abbrev μ-loop : tie.MeasureT-loop
 μ-loop area room f op t table n i₀ i = n - i
@@ -31,7 +31,7 @@ offered-requires c κs = search needs
 loop-holds : tie.Need-loop-holds Inv-loop μ-loop
 loop-holds c =
     let c₁ = c .before .before .before .before .before .before .before .before .before .before .before .before in
-    (search needs, c₁ .pre .1, λ m h. Laws.up-start _)
+    (search needs, c₁ .pre .1, λ m h. Judging.up-start _)
 
 number-of-requires : tie.Need-number-of-requires Inv-loop μ-loop
 number-of-requires c κs = search needs
@@ -54,7 +54,7 @@ returns c =
     let a = l .before .before .before .before .before .before .before .before .before .before .before .before .before in
     let config = a .args .config in
     let m : Scene = record { config = config; storing = false; state = view (a .args .room) (now (a .args .area)) } in
-    Laws.up-stop _ _ _ (c₃ .loop-test .taken)
+    Judging.up-stop _ _ _ (c₃ .loop-test .taken)
     (Asking.item-at _ _ _ _ _
     (c .before .item-described .ensures m _ (l .before .offered .ensures (config .devices)))
     (c₂ .number-of .ensures) (c₁ .number-of2 .ensures)) (c .if1 .taken)
@@ -72,7 +72,7 @@ loop-again c =
     let l = c₂ .before .before .before .before .before in (
       search needs,
       l .loop .inv .1,
-      λ m h. Laws.up-go _ _ (l .loop .inv .2 m h)
+      λ m h. Judging.up-go _ _ (l .loop .inv .2 m h)
           (Asking.item-at _ _ _ _ _ (c .before .item-described .ensures m _ h) (c₂ .number-of .ensures)
           (c₁ .number-of2 .ensures)) (c .if1 .left),
     )
@@ -83,7 +83,7 @@ returns-2 c =
     let a = l .before .before .before .before .before .before .before .before .before .before .before .before .before in
     let config = a .args .config in
     let m : Scene = record { config = config; storing = false; state = view (a .args .room) (now (a .args .area)) } in
-    Laws.up-end _ _ _ (l .loop .inv .2 m (l .before .offered .ensures (config .devices))) (l .loop .inv .0)
+    Judging.up-end _ _ _ (l .loop .inv .2 m (l .before .offered .ensures (config .devices))) (l .loop .inv .0)
     (c .loop-test .left)
 
 pub items-described-spec : {M : Type 1} → statement M

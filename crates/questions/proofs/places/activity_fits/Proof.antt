@@ -25,14 +25,14 @@ enum-told-4 c = search needs
 enum-told-5 : tie.Need-enum-told-5
 enum-told-5 c = search needs
 
-is-inactive-requires : tie.Need-is-inactive-requires
-is-inactive-requires c κs = search needs
+is-active-requires-3 : tie.Need-is-active-requires-3
+is-active-requires-3 c κs = search needs
 
 enum-told-6 : tie.Need-enum-told-6
 enum-told-6 c = search needs
 
-is-active-requires-3 : tie.Need-is-active-requires-3
-is-active-requires-3 c κs = search needs
+is-active-requires-4 : tie.Need-is-active-requires-4
+is-active-requires-4 c κs = search needs
 
 returns : tie.Need-returns
 unfolding q16
@@ -52,11 +52,11 @@ returns-4 c = rw (c .enum-told4 .given .1)
 
 returns-5 : tie.Need-returns-5
 unfolding q16
-returns-5 c = rw (c .before .enum-told5 .given .1) (c .is-inactive .ensures)
+returns-5 c = rw (c .before .enum-told5 .given .1) (c .is-active3 .ensures)
 
 returns-6 : tie.Need-returns-6
 unfolding q16
-returns-6 c = rw (c .before .enum-told6 .given .1) (c .is-active3 .ensures)
+returns-6 c = rw (c .before .enum-told6 .given .1) (c .is-active4 .ensures)
 
 pub activity-fits-spec : {M : Type 1} → statement M
 activity-fits-spec =
@@ -69,9 +69,9 @@ activity-fits-spec =
     enum-told-3
     enum-told-4
     enum-told-5
-    is-inactive-requires
-    enum-told-6
     is-active-requires-3
+    enum-told-6
+    is-active-requires-4
     returns
     returns-2
     returns-3

@@ -4,19 +4,19 @@ use mathlib.Core.Bool.{true}
 use Prim.Native.Nat.{_-_, _≤_}
 use borrow.Author.Needs.{needs}
 use Rattle.model.specs.State.{view}
-use Rattle.questions.specs.Items.{upTo, itemInside}
-use Rattle.questions.proofs.Laws
+use Rattle.questions.specs.Items.{allBelow, itemInside}
+use Rattle.questions.proofs.Judging
 use Rattle.questions.proofs.places.items_inside.Statement.{statement}
 use Rattle.questions.proofs.places.items_inside.Tie as tie
 
 abbrev Inv-loop : tie.InvT-loop
-Inv-loop area room f p op n i₀ i = (i ≤ n) × (upTo i (itemInside (view room area) op f p) ≡ true)
+Inv-loop area room f p op n i₀ i = (i ≤ n) × (allBelow i (itemInside (view room area) op f p) ≡ true)
 
 abbrev μ-loop : tie.MeasureT-loop
 μ-loop area room f p op n i₀ i = n - i
 
 loop-holds : tie.Need-loop-holds Inv-loop μ-loop
-loop-holds c = (search needs, Laws.up-start _)
+loop-holds c = (search needs, Judging.up-start _)
 
 number-of-requires : tie.Need-number-of-requires Inv-loop μ-loop
 number-of-requires c κs = search needs
@@ -41,9 +41,9 @@ item-inside-requires c κs = search needs
 
 returns : tie.Need-returns Inv-loop μ-loop
 returns c =
-    Laws.up-stop _ _ _
+    Judging.up-stop _ _ _
     (c .before .before .before .before .before .before .before .before .before .before .before .before .loop-test
-    .taken) (Laws.item-inside _ _ _ _ _ _ _ _ _ (c .before .item-inside .ensures)
+    .taken) (Judging.item-inside _ _ _ _ _ _ _ _ _ (c .before .item-inside .ensures)
     (c .before .before .before .before .before .before .before .before .number-of .ensures)
     (c .before .before .before .before .number-of2 .ensures) (c .before .before .before .object .ensures)
     (c .before .before .object2 .ensures)) (c .if1 .taken)
@@ -57,16 +57,16 @@ loop-less c = search needs
 loop-again : tie.Need-loop-again Inv-loop μ-loop
 loop-again c = (
   search needs,
-  Laws.up-go _ _
+  Judging.up-go _ _
       (c .before .before .before .before .before .before .before .before .before .before .before .before .before .loop
-      .inv .1) (Laws.item-inside _ _ _ _ _ _ _ _ _ (c .before .item-inside .ensures)
+      .inv .1) (Judging.item-inside _ _ _ _ _ _ _ _ _ (c .before .item-inside .ensures)
       (c .before .before .before .before .before .before .before .before .number-of .ensures)
       (c .before .before .before .before .number-of2 .ensures) (c .before .before .before .object .ensures)
       (c .before .before .object2 .ensures)) (c .if1 .left),
 )
 
 returns-2 : tie.Need-returns-2 Inv-loop μ-loop
-returns-2 c = Laws.up-end _ _ _ (c .before .loop .inv .1) (c .before .loop .inv .0) (c .loop-test .left)
+returns-2 c = Judging.up-end _ _ _ (c .before .loop .inv .1) (c .before .loop .inv .0) (c .loop-test .left)
 
 pub items-inside-spec : {M : Type 1} → statement M
 items-inside-spec =

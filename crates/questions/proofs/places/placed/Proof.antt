@@ -1,7 +1,7 @@
 -- `questions::places::placed` meets its contract: each arm of the match is the definition's. Assumes nothing.
 use borrow.Author.Needs.{needs}
 use Rattle.model.specs.Questions.{q17}
-use Rattle.questions.proofs.Laws
+use Rattle.questions.proofs.Judging
 use Rattle.questions.proofs.places.placed.Statement.{statement}
 use Rattle.questions.proofs.places.placed.Tie as tie
 
@@ -28,7 +28,7 @@ items-inside-requires-2 c κs = search needs
 
 returns : tie.Need-returns
 returns c =
-    Laws.q17-driver _ _ _ _ (c .before .before .enum-told .given .1) (c .before .driver .ensures)
+    Judging.q17-driver _ _ _ _ (c .before .before .enum-told .given .1) (c .before .driver .ensures)
     (c .items-inside .ensures)
 
 returns-2 : tie.Need-returns-2
@@ -36,7 +36,7 @@ unfolding q17
 returns-2 c = rw (c .enum-told2 .given .1)
 
 returns-3 : tie.Need-returns-3
-returns-3 c = Laws.q17-external _ _ _ _ (c .before .enum-told3 .given .1) (c .items-inside2 .ensures)
+returns-3 c = Judging.q17-external _ _ _ _ (c .before .enum-told3 .given .1) (c .items-inside2 .ensures)
 
 pub placed-spec : {M : Type 1} → statement M
 placed-spec =

@@ -3,7 +3,7 @@
 use Prim.Native.Nat.{ℕ, zero, suc, _+_, _<_, _≤_}
 use mathlib.Core.Path.{_≡_, refl, sym, ap, _∙_}
 use mathlib.Core.List.{List, [], _∷_, _++_}
-use mathlib.Core.Bool.{Bool, true, false, not, _&&_, and-false, and-true, and-assoc}
+use mathlib.Core.Bool.{Bool, true, false, not, _&&_, Bool·beq, cond, and-false, and-true, and-assoc}
 use native.Mathlib.Numerals.{add-one}
 use native.Mathlib.Omega.{arith}
 use native.Mathlib.Decide.{ℕ-discrete}
@@ -13,14 +13,12 @@ use lib.Dec.{eqb}
 use borrow.Author.Tests.{eq-eqb, ne-eqb, not-true, not-false}
 use Rattle.model.specs.Base.{nth, below, all}
 use Rattle.model.specs.State.{State, driverIn, objectIn}
-use Rattle.model.specs.Operation.{objectAt, secondAt, formAt}
+use Rattle.model.specs.Operation.{objectAt, secondAt}
 use Rattle.model.specs.Gate.{orElse}
 use Rattle.model.specs.Questions.{
   actorExists,
   itemExists,
   nothingIn,
-  inactive,
-  isActive,
   within,
   q11,
   q12,
@@ -43,7 +41,7 @@ use Rattle.model.specs.declared.Counts.{Counts}
 use Rattle.model.specs.declared.Config.{Config}
 use Rattle.model.specs.declared.Operation.{Operation}
 use Rattle.questions.specs.Items.{
-  upTo,
+  allBelow,
   noneIs,
   actorNamed,
   partitionNamed,
@@ -53,8 +51,8 @@ use Rattle.questions.specs.Items.{
   apart,
   fits,
   itemFitting,
-  itemInactive,
   itemActive,
+  activity,
   inside,
   itemInside,
   namesNo,
@@ -64,12 +62,12 @@ use Rattle.questions.specs.Items.{
 
 -- a loop that tests the numbers below n, at number i
 module _ (p : ℕ → Bool) where
-  pub up-start : upTo 0 p ≡ true
-  unfolding upTo
+  pub up-start : allBelow 0 p ≡ true
+  unfolding allBelow
   up-start = refl
 
-  pub up-go : (i : ℕ) {b : Bool} → upTo i p ≡ true → b ≡ p i → not b ≡ false → upTo (i + 1) p ≡ true
-  unfolding upTo
+  pub up-go : (i : ℕ) {b : Bool} → allBelow i p ≡ true → b ≡ p i → not b ≡ false → allBelow (i + 1) p ≡ true
+  unfolding allBelow
   up-go i {b} h e z = rw add-one (rw (h, ← e, not-false b z))
 
   below-false : (n i : ℕ) → i < n → p i ≡ false → below n p ≡ false
@@ -80,11 +78,11 @@ module _ (p : ℕ → Bool) where
       last (yes q) k = rw (← q, e) (and-false (below i p))
       last (no q) k = rw (k (omega arith))
 
-  pub up-stop : (n i : ℕ) {b : Bool} → i < n → b ≡ p i → not b ≡ true → false ≡ upTo n p
-  unfolding upTo
+  pub up-stop : (n i : ℕ) {b : Bool} → i < n → b ≡ p i → not b ≡ true → false ≡ allBelow n p
+  unfolding allBelow
   up-stop n i {b} h e z = sym (below-false n i h (sym e ∙ not-true b z))
 
-  pub up-end : (n i : ℕ) → upTo i p ≡ true → i ≤ n → n ≤ i → true ≡ upTo n p
+  pub up-end : (n i : ℕ) → allBelow i p ≡ true → i ≤ n → n ≤ i → true ≡ allBelow n p
   up-end n i h l m =
       let q : i ≡ n = omega arith in
       sym (rw q at h)
@@ -123,44 +121,39 @@ pub none-stop : (l : List ℕ) (p i q : ℕ) → i < length l → q ≡ nth l (i
 unfolding noneIs
 none-stop l p i q h e z = sym (none-at l p i h (sym (nth-next l i) ∙ (sym e ∙ z)))
 
--- tests of numbers, as a loop over tests wants them
-pub no-eqb : (q n : ℕ) → (q ≡ n → ⊥) → not (eqb q n) ≡ true
-no-eqb q n h = rw (ne-eqb q n h)
+-- a test that has the outcome wanted
+pub as-wanted : (x wanted : Bool) → Bool·beq (not x) wanted ≡ cond wanted (not x) x
+as-wanted true true = refl
+as-wanted true false = refl
+as-wanted false true = refl
+as-wanted false false = refl
 
-pub yes-eqb : (q n : ℕ) → q ≡ n → not (eqb q n) ≡ false
-yes-eqb q n h = rw (eq-eqb q n h)
-
-pub not-no-eqb : (q n : ℕ) → (q ≡ n → ⊥) → not (not (eqb q n)) ≡ false
-not-no-eqb q n h = rw (ne-eqb q n h)
-
-pub not-yes-eqb : (q n : ℕ) → q ≡ n → not (not (eqb q n)) ≡ true
-not-yes-eqb q n h = rw (eq-eqb q n h)
-
--- what a loop reads of item i
-module _ (op : Operation) (i : ℕ) where
-  pub item-named : (counts : Counts) (f : Family) {o v form : ℕ} {b : Bool} → b ≡ named counts f o v form
-      → o ≡ objectAt op i → v ≡ secondAt op i → form ≡ formAt op i → b ≡ itemNamed counts op f i
+-- what a loop reads of item i: object o, second number v, form
+module _ (objects seconds forms : List ℕ) (i : ℕ) {o v form : ℕ} where
+  pub item-named : (counts : Counts) (f : Family) {b : Bool} → b ≡ named counts f o v form
+      → o ≡ getD objects i 0 → v ≡ getD seconds i 0 → form ≡ getD forms i 0
+      → b ≡ itemNamed counts f objects seconds forms i
   unfolding itemNamed
   item-named counts f e p q r = rw (← p, ← q, ← r) e
 
-  pub item-fitting : (kind class : List ℕ) (f : Family) (o v form k c x : ℕ) {b : Bool} → b ≡ fits f k c v x form
-      → o ≡ objectAt op i → v ≡ secondAt op i → form ≡ formAt op i
-      → k ≡ getD kind o 0 → c ≡ getD class o 0 → x ≡ getD kind v 0 → b ≡ itemFitting kind class op f i
+  pub item-fitting : (kind class : List ℕ) (f : Family) {k c x : ℕ} {b : Bool} → b ≡ fits f k c v x form
+      → o ≡ getD objects i 0 → v ≡ getD seconds i 0 → form ≡ getD forms i 0
+      → k ≡ getD kind o 0 → c ≡ getD class o 0 → x ≡ getD kind v 0
+      → b ≡ itemFitting kind class f objects seconds forms i
   unfolding itemFitting
-  item-fitting kind class f o v form k c x e p q r s t u = rw (← p, ← q, ← r, ← s, ← t, ← u) e
+  item-fitting kind class f e p q r s t u = rw (← p, ← q, ← r, ← s, ← t, ← u) e
 
-  pub item-inside : (b : State) (f : Family) (part o v m x : ℕ) {t : Bool} → t ≡ inside f part m v x
+module _ (b : State) (op : Operation) (i o : ℕ) where
+  pub item-inside : (f : Family) (part v m x : ℕ) {t : Bool} → t ≡ inside f part m v x
       → o ≡ objectAt op i → v ≡ secondAt op i → m ≡ objectIn b o → x ≡ objectIn b v → t ≡ itemInside b op f part i
   unfolding itemInside
-  item-inside b f part o v m x e p q r s = rw (← p, ← q, ← r, ← s) e
+  item-inside f part v m x e p q r s = rw (← p, ← q, ← r, ← s) e
 
-  pub item-inactive : (b : State) (o q : ℕ) → o ≡ objectAt op i → q ≡ objectIn b o → eqb q 0 ≡ itemInactive b op i
-  unfolding itemInactive
-  item-inactive b o q e p = rw (← e, ← p)
-
-  pub item-active : (b : State) (o q : ℕ) → o ≡ objectAt op i → q ≡ objectIn b o → not (eqb q 0) ≡ itemActive b op i
+  pub item-active : (wanted : Bool) (q : ℕ) → o ≡ objectAt op i → q ≡ objectIn b o
+      → Bool·beq (not (eqb q 0)) wanted ≡ itemActive b op wanted i
   unfolding itemActive
-  item-active b o q e p = rw (← e, ← p)
+  item-active true q e p = rw (← e, ← p) (as-wanted (eqb q 0) true)
+  item-active false q e p = rw (← e, ← p) (as-wanted (eqb q 0) false)
 
 pub differs-at : (x y : ℕ) {u w : ℕ} → u ≡ x → w ≡ y → differs u w ≡ differs x y
 differs-at x y p q = rw (← p, ← q)
@@ -172,8 +165,9 @@ actor-same config Device s = refl
 actor-same config External s = refl
 
 items-same : (config : Config) (op : Operation) (f : Family)
-    → upTo (op .count) (itemNamed (config .counts) op f) ≡ below (op .count) (itemExists config op f)
-unfolding upTo itemNamed
+    → allBelow (op .count) (itemNamed (config .counts) f (op .objects) (op .seconds) (op .forms))
+    ≡ below (op .count) (itemExists config op f)
+unfolding allBelow itemNamed
 items-same config op Write = refl
 items-same config op Copy = refl
 items-same config op Create = refl
@@ -181,15 +175,15 @@ items-same config op Destroy = refl
 items-same config op Activate = refl
 items-same config op Deactivate = refl
 
-pub q11-same : (config : Config) (op : Operation) (f : Family) (a : Actor) {x y z : Bool}
-    → x ≡ actorNamed (config .counts) a (op .subject) → y ≡ partitionNamed f a (op .partition)
-    → z ≡ upTo (op .count) (itemNamed (config .counts) op f) → (x && y && z) ≡ q11 config op f a
+q11-same : (config : Config) (op : Operation) (f : Family) (a : Actor)
+    → (actorNamed (config .counts) a (op .subject) && partitionNamed f a (op .partition)
+    && allBelow (op .count) (itemNamed (config .counts) f (op .objects) (op .seconds) (op .forms))) ≡ q11 config op f a
 unfolding q11
-q11-same config op f a p q r = rw (p, q, r, actor-same config a (op .subject), items-same config op f)
+q11-same config op f a = rw (actor-same config a (op .subject), items-same config op f)
 
 -- questions 12 and 13
-pub q12-same : (op : Operation) (f : Family) → upTo (op .count) (apart (op .objects) (op .seconds) f) ≡ q12 op f
-unfolding upTo apart q12
+q12-same : (op : Operation) (f : Family) → allBelow (op .count) (apart (op .objects) (op .seconds) f) ≡ q12 op f
+unfolding allBelow apart q12
 q12-same op Write = refl
 q12-same op Copy = refl
 q12-same op Create = refl
@@ -197,9 +191,10 @@ q12-same op Destroy = refl
 q12-same op Activate = refl
 q12-same op Deactivate = refl
 
-pub q13-same : (config : Config) (op : Operation) (f : Family)
-    → upTo (op .count) (itemFitting (config .objects .kind) (config .objects .class) op f) ≡ q13 config op f
-unfolding upTo itemFitting q13
+q13-same : (config : Config) (op : Operation) (f : Family)
+    → allBelow (op .count) (itemFitting (config .objects .kind) (config .objects .class) f (op .objects) (op .seconds)
+    (op .forms)) ≡ q13 config op f
+unfolding allBelow itemFitting q13
 q13-same config op Write = refl
 q13-same config op Copy = refl
 q13-same config op Create = refl
@@ -207,23 +202,35 @@ q13-same config op Destroy = refl
 q13-same config op Activate = refl
 q13-same config op Deactivate = refl
 
+-- the answers to these three put together
+pub names-asked : (config : Config) (op : Operation) (f : Family) (a : Actor) {x y z : Bool}
+    → x ≡ actorNamed (config .counts) a (op .subject) → y ≡ partitionNamed f a (op .partition)
+    → z ≡ allBelow (op .count) (itemNamed (config .counts) f (op .objects) (op .seconds) (op .forms)) → {u w : Bool}
+    → u ≡ allBelow (op .count) (apart (op .objects) (op .seconds) f)
+    → w ≡ allBelow (op .count) (itemFitting (config .objects .kind) (config .objects .class) f (op .objects)
+    (op .seconds) (op .forms))
+    → {r₁₃ r₁₂ r : ℕ} → r₁₃ ≡ ask 13 w 0 → r₁₂ ≡ ask 12 u r₁₃ → r ≡ ask 11 (x && y && z) r₁₂
+    → r ≡ namesNo config op f a 0
+unfolding namesNo
+names-asked config op f a hx hy hz hu hw e₁₃ e₁₂ e =
+    rw (e, e₁₂, e₁₃, hx, hy, hz, hu, hw, q12-same op f, q13-same config op f)
+    (ap (λ (b : Bool). ask 11 b (ask 12 (q12 op f) (ask 13 (q13 config op f) 0))) (q11-same config op f a))
+
 -- questions 15, 16 and 17
 pub nothing-same : (b : State) (p : ℕ) {d c o : Bool} → d ≡ noneIs p (b .driver) → c ≡ noneIs p (b .device)
     → o ≡ noneIs p (b .object) → (d && c && o) ≡ nothingIn b p
 unfolding noneIs
 nothing-same b p x y z = rw (x, y, z)
 
-pub inactive-same : (b : State) (op : Operation) → upTo (op .count) (itemInactive b op) ≡ inactive b op External
-unfolding upTo itemInactive
-inactive-same b op = refl
-
-pub active-same : (b : State) (op : Operation) → upTo (op .count) (itemActive b op) ≡ isActive b op External
-unfolding upTo itemActive
-active-same b op = refl
+pub items-active : (b : State) (op : Operation) (wanted : Bool)
+    → allBelow (op .count) (itemActive b op wanted) ≡ activity b op External wanted
+unfolding allBelow itemActive
+items-active b op true = refl
+items-active b op false = refl
 
 inside-same : (b : State) (op : Operation) (f : Family) (p : ℕ)
-    → upTo (op .count) (itemInside b op f p) ≡ below (op .count) (within b op f p)
-unfolding upTo itemInside
+    → allBelow (op .count) (itemInside b op f p) ≡ below (op .count) (within b op f p)
+unfolding allBelow itemInside
 inside-same b op Write p = refl
 inside-same b op Copy p = refl
 inside-same b op Create p = refl
@@ -233,11 +240,11 @@ inside-same b op Deactivate p = refl
 
 module _ (b : State) (op : Operation) (f : Family) (a : Actor) {r : Bool} where
   pub q17-driver : a ≡ Driver → {p : ℕ} → p ≡ driverIn b (op .subject)
-      → r ≡ upTo (op .count) (itemInside b op f p) → r ≡ q17 b op f a
+      → r ≡ allBelow (op .count) (itemInside b op f p) → r ≡ q17 b op f a
   unfolding q17
   q17-driver e {p} q h = rw (e, ← q) (h ∙ inside-same b op f p)
 
-  pub q17-external : a ≡ External → r ≡ upTo (op .count) (itemInside b op f (op .partition)) → r ≡ q17 b op f a
+  pub q17-external : a ≡ External → r ≡ allBelow (op .count) (itemInside b op f (op .partition)) → r ≡ q17 b op f a
   unfolding q17
   q17-external e h = rw e (h ∙ inside-same b op f (op .partition))
 
