@@ -18,7 +18,7 @@ use Rattle.model.specs.declared.Actor.the-variants.{Driver, Device, External}
 use Rattle.model.specs.declared.Config.{Config}
 use Rattle.model.specs.declared.Operation.{Operation}
 use Rattle.effect.specs.Moves.{ownedBy, listed}
-use Rattle.gate.specs.Asking.{Marks, Small}
+use Rattle.gate.specs.Asking.{Marks, InTable}
 use Rattle.state.specs.Change.{configOf}
 
 -- how many places a table of objects has
@@ -97,9 +97,9 @@ module _ (list : List ℕ) where
   unfolding Marks listed
   listed-start o = rw (zeros-at slots o)
 
-  pub listed-turn : (t : List ℕ) (i count : ℕ) {n : ℕ} → Marks t (listed list i) → i < count → Small list count
+  pub listed-turn : (t : List ℕ) (i count : ℕ) {n : ℕ} → Marks t (listed list i) → i < count → InTable list count
       → length t ≡ slots → n ≡ getD list i 0 → Marks (set t n 1) (listed list (i + 1))
-  unfolding Marks listed Small
+  unfolding Marks listed InTable
   listed-turn t i count {n} u l small long e o = at (ℕ-discrete o n)
     where
       both : (s x : Bool) → x ≡ true → not (s && not x) ≡ true
@@ -120,8 +120,8 @@ module _ (list : List ℕ) where
           (u o ∙ sym (other (below i (λ j. not (eqb (getD list j 0) o))) (eqb (getD list i 0) o)
           (ne-eqb (getD list i 0) o (λ y. z (sym y ∙ sym e)))))
 
-  pub small-place : (i count : ℕ) {n : ℕ} → i < count → Small list count → n ≡ getD list i 0 → n < slots
-  unfolding Small
+  pub small-place : (i count : ℕ) {n : ℕ} → i < count → InTable list count → n ≡ getD list i 0 → n < slots
+  unfolding InTable
   small-place i count l small e = omega (arith, small i l)
 
   pub listed-end : (t : List ℕ) (i count : ℕ) → Marks t (listed list i) → i ≤ count → count ≤ i

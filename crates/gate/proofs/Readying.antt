@@ -36,7 +36,7 @@ use Rattle.effect.specs.Fit.{Fit}
 use Rattle.effect.proofs.Effects.{fit}
 use Rattle.closure.proofs.Accepting.{values-ok, owners-ok, area-ok}
 use Rattle.gate.specs.Ready.{Accepted, Searchable, Ready, Complete, Asked}
-use Rattle.gate.specs.Asking.{stores, Small}
+use Rattle.gate.specs.Asking.{stores, InTable}
 
 pub accepted-of : (file : List ℕ) {l : Loaded} → l ≡ load file → l .answer ≡ 0 → Accepted (l .config)
 accepted-of file e z = record {
@@ -121,8 +121,8 @@ module _ (config : Config) (room : ℕ) (area : List ℕ) (op : Operation) (f : 
   few-objects = sound .few .objects
 
   -- question 20: listed objects are places of the table
-  pub small-of : f ≡ Deactivate → Small (op .objects) (op .count)
-  unfolding Small
+  pub small-of : f ≡ Deactivate → InTable (op .objects) (op .count)
+  unfolding InTable
   small-of e i l =
       let h : q11 config op Deactivate a ≡ true = subst (λ (x : Family). q11 config op x a ≡ true) e (asked .p11) in
       let x : isObject config (objectAt op i) ≡ true = items-exist config op Deactivate a h i l in

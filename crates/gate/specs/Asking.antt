@@ -67,5 +67,5 @@ unfoldable pub Marks : List ℕ → (ℕ → Bool) → Type 0
 Marks table p = (o : ℕ) → eqb (getD table o 0) 1 ≡ p o
 
 -- the first k numbers of a list are places of a table of objects
-unfoldable pub Small : List ℕ → ℕ → Type 0
-Small list k = (i : ℕ) → i < k → getD list i 0 ≤ mostObjects
+unfoldable pub InTable : List ℕ → ℕ → Type 0
+InTable list k = (i : ℕ) → i < k → getD list i 0 ≤ mostObjects

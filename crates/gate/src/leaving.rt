@@ -12,7 +12,7 @@ ghost use Rattle.model.specs.Questions.{q20, itself};
 ghost use Rattle.model.specs.declared.Actor.the-variants.{External};
 ghost use Rattle.effect.specs.Moves.{ownedBy, listed};
 ghost use Rattle.gate.specs.Ready.{Searchable, Ready, Asked};
-ghost use Rattle.gate.specs.Asking.{leaves, Marks, Small};
+ghost use Rattle.gate.specs.Asking.{leaves, Marks, InTable};
 use crate::next::is_nothing;
 use closure::answer::naming;
 use model::Actor;
@@ -38,14 +38,14 @@ fn is_leaving(f: Family) -> bool
 }
 
 // What the table has for an object: 1 if it is hit.
-fn mark(hit: bool) -> u8
+fn table_mark(hit: bool) -> u8
     ensures { λ r. ⌜ r ≡ cond hit 1 0 ⌝ }
 {
     if hit { 1 } else { 0 }
 }
 
 // The owner of object n is driver k (class 1) or device k (class 2).
-fn is_owned<'a>(class: &'a [u8], owner: &'a [u8], a: u8, k: usize, n: usize) -> bool
+fn has_owner<'a>(class: &'a [u8], owner: &'a [u8], a: u8, k: usize, n: usize) -> bool
     ensures { λ r.
         ⌜ r ≡ (eqb (getD (now (class .entry)) n 0) a && eqb (getD (now (owner .entry)) n 0) k) ⌝ }
 {
@@ -69,14 +69,14 @@ fn mark_owned<'a>(
     let mut i = 0;
     while i < objects {
         i += 1;
-        table[i] = mark(is_owned(class, owner, a, k, i));
+        table[i] = table_mark(has_owner(class, owner, a, k, i));
     }
     table
 }
 
 // A 1 at each of the first `count` objects of a list.
 fn mark_listed(list: &[u32], count: usize) -> [u8; OBJECT_SLOTS]
-    requires { ⌜ Small (now list) count ⌝ }
+    requires { ⌜ InTable (now list) count ⌝ }
     ensures { λ r. ⌜ Marks r (listed (now (list .entry)) count) ⌝ }
 {
     let mut table = [0u8; OBJECT_SLOTS];
@@ -92,7 +92,7 @@ fn mark_listed(list: &[u32], count: usize) -> [u8; OBJECT_SLOTS]
 // A 1 at each object concerned.
 fn mark_concerned(config: Config, op: Operation, a: Actor) -> [u8; OBJECT_SLOTS]
     requires { ⌜ config .counts .objects ≤ mostObjects ⌝ }
-    requires { ⌜ (a ≡ External → Small (op .objects) (op .count)) ⌝ }
+    requires { ⌜ (a ≡ External → InTable (op .objects) (op .count)) ⌝ }
     ensures { λ r. ⌜ Marks r (concerned config op a) ⌝ }
 {
     let n = config.counts.objects as usize;

@@ -24,11 +24,11 @@ loop-holds c = (search needs, refl, Marking.owned-start _ _ _ _ _)
 add-i : tie.Need-add-i Inv-loop μ-loop
 add-i c = search needs
 
-is-owned-requires : tie.Need-is-owned-requires Inv-loop μ-loop
-is-owned-requires c κs = search needs
+has-owner-requires : tie.Need-has-owner-requires Inv-loop μ-loop
+has-owner-requires c κs = search needs
 
-mark-requires : tie.Need-mark-requires Inv-loop μ-loop
-mark-requires c κs = search needs
+table-mark-requires : tie.Need-table-mark-requires Inv-loop μ-loop
+table-mark-requires c κs = search needs
 
 array-write-table : tie.Need-array-write-table Inv-loop μ-loop
 array-write-table c = search needs
@@ -42,7 +42,7 @@ loop-again c =
       search needs,
       search length-turn,
       Marking.owned-turn _ _ _ _ _ _ _ (c₁ .loop .inv .2) (c .before .before .loop-test .taken) (c₂ .pre)
-          (c₁ .loop .inv .1) (c .before .is-owned .ensures) (c .mark .ensures),
+          (c₁ .loop .inv .1) (c .before .has-owner .ensures) (c .table-mark .ensures),
     )
 
 returns : tie.Need-returns Inv-loop μ-loop
@@ -56,8 +56,8 @@ mark-owned-spec =
     μ-loop
     loop-holds
     add-i
-    is-owned-requires
-    mark-requires
+    has-owner-requires
+    table-mark-requires
     array-write-table
     loop-less
     loop-again

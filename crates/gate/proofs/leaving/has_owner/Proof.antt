@@ -1,9 +1,9 @@
--- `gate::leaving::is_owned` meets its contract: the bytes of both columns decide. Assumes nothing.
+-- `gate::leaving::has_owner` meets its contract: the bytes of both columns decide. Assumes nothing.
 use denote.Ref.{now}
 use borrow.Author.Needs.{needs}
 use Rattle.gate.proofs.Marking
-use Rattle.gate.proofs.leaving.is_owned.Statement.{statement}
-use Rattle.gate.proofs.leaving.is_owned.Tie as tie
+use Rattle.gate.proofs.leaving.has_owner.Statement.{statement}
+use Rattle.gate.proofs.leaving.has_owner.Tie as tie
 
 byte-at-requires : tie.Need-byte-at-requires
 byte-at-requires c κs = search needs
@@ -20,5 +20,5 @@ returns c =
     Marking.owned-by (now (a .args .class)) (now (a .args .owner)) _ _ (a .args .n) (c .before .byte-at .ensures)
     (c .byte-at2 .ensures)
 
-pub is-owned-spec : {M : Type 1} → statement M
-is-owned-spec = tie.close (tie.spec byte-at-requires byte-at-requires-2 cast-o returns)
+pub has-owner-spec : {M : Type 1} → statement M
+has-owner-spec = tie.close (tie.spec byte-at-requires byte-at-requires-2 cast-o returns)
