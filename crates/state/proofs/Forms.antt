@@ -2,19 +2,23 @@
 use Prim.Native.Nat.{ℕ, zero, suc, _+_, _-_, _≤_, _<_}
 use mathlib.Core.Path.{_≡_, refl, sym, ap, _∙_}
 use mathlib.Core.List.{List, [], _∷_}
-use mathlib.Core.Bool.{Bool, true, false, not, _&&_}
+use mathlib.Core.Bool.{Bool, true, false, not, _&&_, cond}
 use native.Mathlib.Numerals.{add-one}
 use native.Mathlib.Decide.{decLe}
 use native.Mathlib.Omega.{arith}
 use lib.ListN.{length, getD, replicate}
 use lib.Seq.{ext-getD}
 use lib.Dec.{leb, eqb}
-use borrow.Author.Tests.{not-true, not-false, le-leb, lt-leb, eq-eqb, ne-eqb}
+use borrow.Author.Tests.{not-true, not-false, leb-true, le-leb, lt-leb, eq-eqb, ne-eqb}
 use Rattle.model.specs.Base.{all, every}
 use Rattle.model.specs.Config.{mostDrivers, mostDevices}
 use Rattle.model.specs.State.{
   contentBytes,
   partitionCount,
+  driversFrom,
+  devicesFrom,
+  driverPlace,
+  devicePlace,
   State,
   statusOf,
   driverIn,
@@ -30,26 +34,30 @@ use Rattle.model.specs.State.{
   wellFormed,
 }
 use Rattle.model.specs.declared.Config.{Config}
-use Rattle.model.proofs.Lists.{below-at}
+use Rattle.model.proofs.Lists.{and-l, and-r}
 use Rattle.model.proofs.StateLaws.{Sixteen}
-use Rattle.model.proofs.StateBytes.{status-byte}
+use Rattle.model.proofs.StateBytes.{status-byte, driver-byte, device-byte}
+use Rattle.state.specs.Bytes.{AtMost, Highest}
 use Rattle.state.specs.Change.{configOf}
 use Rattle.state.specs.Formed.{
   statusesRight,
   isAssigned,
   assignmentRight,
-  driversRight,
-  devicesRight,
+  assignmentsRight,
   objectsRight,
   isValue,
   contentRight,
   placeRight,
-  low,
   Zeros,
 }
 use Rattle.state.proofs.Places.{view-shape}
 
 -- tests
+same-test : (a b : Bool) → (a ≡ true → b ≡ true) → (b ≡ true → a ≡ true) → a ≡ b
+same-test true b f g = sym (f refl)
+same-test false true f g = g refl
+same-test false false f g = refl
+
 and-false : (a : Bool) → false ≡ (a && false)
 and-false true = refl
 and-false false = refl
@@ -73,12 +81,10 @@ module _ (p : ℕ → Bool) where
           rw f (and-false (every n p))
 
 -- statuses
-all-off : (p : ℕ → Bool) (l : List ℕ) (i : ℕ) → i < length l → p (getD l i 0) ≡ false → false ≡ all p l
-all-off p [] i h e = absurd (omega arith)
-all-off p (x ∷ l) zero h e = rw e
-all-off p (x ∷ l) (suc i) h e =
-    let r : false ≡ all p l = all-off p l i (omega arith) e in
-    rw (← r) (and-false (p x))
+all-at : (p : ℕ → Bool) (l : List ℕ) → all p l ≡ true → (i : ℕ) → i < length l → p (getD l i 0) ≡ true
+all-at p [] h i k = absurd (omega arith)
+all-at p (x ∷ l) h zero k = and-l (p x) (all p l) h
+all-at p (x ∷ l) h (suc i) k = all-at p l (and-r (p x) (all p l) h) i (omega arith)
 
 all-on : (p : ℕ → Bool) (l : List ℕ) → ((i : ℕ) → i < length l → p (getD l i 0) ≡ true) → all p l ≡ true
 all-on p [] h = refl
@@ -89,35 +95,26 @@ module _ (room : ℕ) (s : List ℕ) where
   unfolding statusesRight
   status-first h = rw (status-byte room s 0 (omega arith), ne-eqb (getD s 0 0) 0 h)
 
-  pub status-high : (i : ℕ) → i < partitionCount → 2 < getD s i 0 → false ≡ statusesRight (view room s)
-  unfolding statusesRight
-  status-high i h g =
-      let t : leb (statusOf (view room s) i) 2 ≡ false = rw (status-byte room s i h) (lt-leb (getD s i 0) 2 g) in
-      let r : false ≡ all (λ v. leb v 2) (view room s .status) =
-      all-off (λ v. leb v 2) (view room s .status) i (omega (arith, view-shape room s .statuses)) t in
-      rw (← r) (and-false (eqb (statusOf (view room s) 0) 0))
-
-  pub status-end : (i : ℕ) → getD s 0 0 ≡ 0 → i ≤ partitionCount → partitionCount ≤ i → low s i ≡ true
-      → true ≡ statusesRight (view room s)
-  unfolding statusesRight low
-  status-end i z h k l =
+  pub status-rest : (t : ℕ) → getD s 0 0 ≡ 0 → Highest s 0 partitionCount t → leb t 2 ≡ statusesRight (view room s)
+  unfolding statusesRight AtMost
+  status-rest t z h =
       let f : eqb (statusOf (view room s) 0) 0 ≡ true =
       eq-eqb (statusOf (view room s) 0) 0 (status-byte room s 0 (omega arith) ∙ z) in
-      let r : all (λ v. leb v 2) (view room s .status) ≡ true =
-      all-on (λ v. leb v 2) (view room s .status)
-      (λ j q.
-      let w : j < partitionCount = omega (arith, view-shape room s .statuses) in
-      rw (status-byte room s j w) (below-at i (λ k. leb (getD s k 0) 2) l j (omega arith)))
-      in
-      rw (f, r)
+      rw f (same-test (leb t 2) (all (λ v. leb v 2) (view room s .status)) low high)
+    where
+      low : leb t 2 ≡ true → all (λ v. leb v 2) (view room s .status) ≡ true
+      low e =
+          all-on (λ v. leb v 2) (view room s .status)
+          (λ j q.
+          let w : j < partitionCount = omega (arith, view-shape room s .statuses) in
+          rw (status-byte room s j w) (le-leb (getD s j 0) 2 (omega (arith, leb-true t 2 e, h .above j (omega arith) w))))
 
-pub low-none : (s : List ℕ) → low s 0 ≡ true
-unfolding low
-low-none s = refl
-
-pub low-on : (s : List ℕ) (i : ℕ) → low s i ≡ true → getD s i 0 ≤ 2 → low s (i + 1) ≡ true
-unfolding low
-low-on s i h k = rw (add-one i, h) (le-leb (getD s i 0) 2 k)
+      high : all (λ v. leb v 2) (view room s .status) ≡ true → leb t 2 ≡ true
+      high e =
+          le-leb t 2 (h .least 2 (λ j l w.
+          let x : leb (statusOf (view room s) j) 2 ≡ true =
+          all-at (λ v. leb v 2) (view room s .status) e j (omega (arith, view-shape room s .statuses)) in
+          leb-true (getD s j 0) 2 (rw (status-byte room s j w) at x)))
 
 -- a partition byte
 module _ (b : State) (p : ℕ) where
@@ -129,62 +126,46 @@ module _ (b : State) (p : ℕ) where
   unfolding isAssigned
   assigned-some v h e = rw (ne-eqb p 0 h, e)
 
-  pub assignment-present : (many n : ℕ) (r : Bool) → n ≤ many → r ≡ isAssigned b p → r ≡ assignmentRight b many n p
-  unfolding assignmentRight isAssigned
-  assignment-present many n r h e = rw (le-leb n many h) e
+  either-way : (t : Bool) → true ≡ cond t true true
+  either-way true = refl
+  either-way false = refl
 
-  pub assignment-absent : (many n : ℕ) → many < n → eqb p 0 ≡ assignmentRight b many n p
+  pub assignment-none : (many n : ℕ) → p ≡ 0 → true ≡ assignmentRight b many n p
   unfolding assignmentRight
-  assignment-absent many n h = rw (lt-leb n many h)
+  assignment-none many n e = rw (eq-eqb p 0 e) (either-way (leb n many))
 
-module _ (b : State) (many i p : ℕ) (t : Bool) where
-  pub drivers-on : p ≡ driverIn b (i + 1) → t ≡ assignmentRight b many (i + 1) p → not t ≡ false
-      → driversRight b many i ≡ true → driversRight b many (i + 1) ≡ true
-  unfolding driversRight assignmentRight
-  drivers-on e q n h =
-      every-on (λ d. rightAssignment b many d (driverIn b d)) i h
-      (ap (λ (x : ℕ). rightAssignment b many (i + 1) x) (sym e) ∙ (sym q ∙ not-false t n))
+  pub assignment-absent : (many n : ℕ) → (p ≡ 0 → ⊥) → many < n → false ≡ assignmentRight b many n p
+  unfolding assignmentRight
+  assignment-absent many n e h = rw (lt-leb n many h, ne-eqb p 0 e)
 
-  pub drivers-off : p ≡ driverIn b (i + 1) → t ≡ assignmentRight b many (i + 1) p → not t ≡ true → i < mostDrivers
-      → false ≡ driversRight b many mostDrivers
-  unfolding driversRight assignmentRight
-  drivers-off e q n h =
-      every-off (λ d. rightAssignment b many d (driverIn b d)) mostDrivers i h
-      (ap (λ (x : ℕ). rightAssignment b many (i + 1) x) (sym e) ∙ (sym q ∙ not-true t n))
+  pub assignment-present : (many n v : ℕ) → (p ≡ 0 → ⊥) → n ≤ many → v ≡ statusOf b p
+      → eqb v 1 ≡ assignmentRight b many n p
+  unfolding assignmentRight
+  assignment-present many n v e h q = rw (le-leb n many h, ne-eqb p 0 e, q)
 
-  pub devices-on : p ≡ deviceIn b (i + 1) → t ≡ assignmentRight b many (i + 1) p → not t ≡ false
-      → devicesRight b many i ≡ true → devicesRight b many (i + 1) ≡ true
-  unfolding devicesRight assignmentRight
-  devices-on e q n h =
-      every-on (λ d. rightAssignment b many d (deviceIn b d)) i h
-      (ap (λ (x : ℕ). rightAssignment b many (i + 1) x) (sym e) ∙ (sym q ∙ not-false t n))
+module _ (b : State) (s : List ℕ) (before many : ℕ) where
+  pub assignments-none : assignmentsRight b s before many 0 ≡ true
+  unfolding assignmentsRight
+  assignments-none = refl
 
-  pub devices-off : p ≡ deviceIn b (i + 1) → t ≡ assignmentRight b many (i + 1) p → not t ≡ true → i < mostDevices
-      → false ≡ devicesRight b many mostDevices
-  unfolding devicesRight assignmentRight
-  devices-off e q n h =
-      every-off (λ d. rightAssignment b many d (deviceIn b d)) mostDevices i h
-      (ap (λ (x : ℕ). rightAssignment b many (i + 1) x) (sym e) ∙ (sym q ∙ not-true t n))
+  module _ (slots i : ℕ) where
+    pub assignments-end : i ≤ slots → slots ≤ i → assignmentsRight b s before many i ≡ true
+        → true ≡ assignmentsRight b s before many slots
+    assignments-end h k e =
+        let q : i ≡ slots = omega arith in
+        rw (← q) (sym e)
 
-pub drivers-none : (b : State) (many : ℕ) → driversRight b many 0 ≡ true
-unfolding driversRight
-drivers-none b many = refl
+    module _ (t : Bool) (q : t ≡ assignmentRight b many (i + 1) (getD s (before + (i + 1)) 0)) where
+      pub assignments-on : not t ≡ false → assignmentsRight b s before many i ≡ true
+          → assignmentsRight b s before many (i + 1) ≡ true
+      unfolding assignmentsRight assignmentRight
+      assignments-on n h =
+          every-on (λ n. rightAssignment b many n (getD s (before + n) 0)) i h (sym q ∙ not-false t n)
 
-pub drivers-end : (b : State) (many i : ℕ) → i ≤ mostDrivers → mostDrivers ≤ i → driversRight b many i ≡ true
-    → true ≡ driversRight b many mostDrivers
-drivers-end b many i h k e =
-    let q : i ≡ mostDrivers = omega arith in
-    rw (← q) (sym e)
-
-pub devices-none : (b : State) (many : ℕ) → devicesRight b many 0 ≡ true
-unfolding devicesRight
-devices-none b many = refl
-
-pub devices-end : (b : State) (many i : ℕ) → i ≤ mostDevices → mostDevices ≤ i → devicesRight b many i ≡ true
-    → true ≡ devicesRight b many mostDevices
-devices-end b many i h k e =
-    let q : i ≡ mostDevices = omega arith in
-    rw (← q) (sym e)
+      pub assignments-off : not t ≡ true → i < slots → false ≡ assignmentsRight b s before many slots
+      unfolding assignmentsRight assignmentRight
+      assignments-off n h =
+          every-off (λ n. rightAssignment b many n (getD s (before + n) 0)) slots i h (sym q ∙ not-true t n)
 
 -- sixteen bytes
 same-off : (x y : List ℕ) (i : ℕ) → (getD x i 0 ≡ getD y i 0 → ⊥) → sameBytes x y ≡ false
@@ -335,24 +316,68 @@ module _ (room : ℕ) (b : State) (objects values : ℕ) (kind class owner hardc
           every-on (λ n. rightObject whole b n) i h (both ∙ not-false u x)
 
 -- the whole
-module _ (room : ℕ) (config : Config) (b : State) (t : Bool) (f : t ≡ statusesRight b) where
-  pub formed-status : not t ≡ true → false ≡ wellFormed room config b
+every-same : (p q : ℕ → Bool) (k : ℕ) → ((n : ℕ) → 1 ≤ n → n ≤ k → p n ≡ q n) → every k p ≡ every k q
+every-same p q zero h = refl
+every-same p q (suc k) h =
+    λ i. every-same p q k (λ n l u. h n l (omega arith)) i && h (suc k) (omega arith) (omega arith) i
+
+module _ (room : ℕ) (s : List ℕ) (many : ℕ) where
+  drivers-same : assignmentsRight (view room s) s (driversFrom - 1) many mostDrivers
+      ≡ every mostDrivers (λ d. rightAssignment (view room s) many d (driverIn (view room s) d))
+  unfolding assignmentsRight
+  drivers-same =
+      every-same (λ d. rightAssignment (view room s) many d (getD s (driverPlace d) 0))
+      (λ d. rightAssignment (view room s) many d (driverIn (view room s) d)) mostDrivers
+      (λ d l u. ap (λ (p : ℕ). rightAssignment (view room s) many d p) (sym (driver-byte room s d l u)))
+
+  devices-same : assignmentsRight (view room s) s (devicesFrom - 1) many mostDevices
+      ≡ every mostDevices (λ c. rightAssignment (view room s) many c (deviceIn (view room s) c))
+  unfolding assignmentsRight
+  devices-same =
+      every-same (λ c. rightAssignment (view room s) many c (getD s (devicePlace c) 0))
+      (λ c. rightAssignment (view room s) many c (deviceIn (view room s) c)) mostDevices
+      (λ c l u. ap (λ (p : ℕ). rightAssignment (view room s) many c p) (sym (device-byte room s c l u)))
+
+module _ (room : ℕ) (config : Config) (s : List ℕ) (t : Bool) (f : t ≡ statusesRight (view room s)) where
+  pub formed-status : not t ≡ true → false ≡ wellFormed room config (view room s)
   unfolding wellFormed statusesRight
   formed-status x = rw (← f, not-true t x)
 
-  module _ (y : not t ≡ false) (u : Bool) (g : u ≡ driversRight b (config .counts .drivers) mostDrivers) where
-    pub formed-drivers : not u ≡ true → false ≡ wellFormed room config b
-    unfolding wellFormed statusesRight driversRight
-    formed-drivers x = rw (← f, not-false t y, ← g, not-true u x)
+  module _ (y : not t ≡ false) (u : Bool)
+      (g : u ≡ assignmentsRight (view room s) s (driversFrom - 1) (config .counts .drivers) mostDrivers) where
+    pub formed-drivers : not u ≡ true → false ≡ wellFormed room config (view room s)
+    unfolding wellFormed statusesRight
+    formed-drivers x = rw (← f, not-false t y, ← drivers-same room s (config .counts .drivers), ← g, not-true u x)
 
-    module _ (z : not u ≡ false) (v : Bool) (h : v ≡ devicesRight b (config .counts .devices) mostDevices) where
-      pub formed-devices : not v ≡ true → false ≡ wellFormed room config b
-      unfolding wellFormed statusesRight driversRight devicesRight
-      formed-devices x = rw (← f, not-false t y, ← g, not-false u z, ← h, not-true v x)
+    module _ (z : not u ≡ false) (v : Bool)
+        (h : v ≡ assignmentsRight (view room s) s (devicesFrom - 1) (config .counts .devices) mostDevices) where
+      pub formed-devices : not v ≡ true → false ≡ wellFormed room config (view room s)
+      unfolding wellFormed statusesRight
+      formed-devices x = rw (
+        ← f,
+        not-false t y,
+        ← drivers-same room s (config .counts .drivers),
+        ← g,
+        not-false u z,
+        ← devices-same room s (config .counts .devices),
+        ← h,
+        not-true v x,
+      )
 
       pub formed-objects : (r : Bool) → not v ≡ false
           → r ≡ objectsRight (configOf (config .counts .objects) (config .counts .values) (config .objects .kind)
-          (config .objects .class) (config .objects .owner) (config .devices .hardcoded)) b room
-          → r ≡ wellFormed room config b
-      unfolding wellFormed statusesRight driversRight devicesRight objectsRight configOf
-      formed-objects r x e = rw (← f, not-false t y, ← g, not-false u z, ← h, not-false v x) e
+          (config .objects .class) (config .objects .owner) (config .devices .hardcoded)) (view room s) room
+          → r ≡ wellFormed room config (view room s)
+      unfolding wellFormed statusesRight objectsRight configOf
+      formed-objects r x e =
+          rw (
+            ← f,
+            not-false t y,
+            ← drivers-same room s (config .counts .drivers),
+            ← g,
+            not-false u z,
+            ← devices-same room s (config .counts .devices),
+            ← h,
+            not-false v x,
+          )
+          e

@@ -1,4 +1,5 @@
 pub mod Splicing
+pub mod Runs
 pub mod Places
 pub mod Forms
 pub mod Turns

@@ -1,16 +1,14 @@
 -- The parts of question 9, each as one test that the code answers.
-use Prim.Native.Nat.{ℕ, _≤_, _<_}
+use Prim.Native.Nat.{ℕ, _+_, _≤_, _<_}
 use mathlib.Core.Path.{_≡_}
 use mathlib.Core.List.{List}
 use mathlib.Core.Bool.{Bool, _&&_}
 use lib.ListN.{getD}
 use lib.Dec.{leb, eqb}
-use Rattle.model.specs.Base.{all, every, below}
+use Rattle.model.specs.Base.{all, every}
 use Rattle.model.specs.State.{
   State,
   statusOf,
-  driverIn,
-  deviceIn,
   valueBytes,
   assigned,
   rightAssignment,
@@ -30,12 +28,9 @@ isAssigned b p = assigned b p
 unfoldable pub assignmentRight : State → ℕ → ℕ → ℕ → Bool
 assignmentRight b many n p = rightAssignment b many n p
 
--- the first k drivers, devices and objects
-unfoldable pub driversRight : State → ℕ → ℕ → Bool
-driversRight b many k = every k (λ d. rightAssignment b many d (driverIn b d))
-
-unfoldable pub devicesRight : State → ℕ → ℕ → Bool
-devicesRight b many k = every k (λ c. rightAssignment b many c (deviceIn b c))
+-- the first k drivers or devices, the byte of number n at place before + n of the area s; and the first k objects
+unfoldable pub assignmentsRight : State → List ℕ → ℕ → ℕ → ℕ → Bool
+assignmentsRight b s before many k = every k (λ n. rightAssignment b many n (getD s (before + n) 0))
 
 unfoldable pub objectsRight : Config → State → ℕ → Bool
 objectsRight config b k = every k (λ n. rightObject config b n)
@@ -48,10 +43,6 @@ contentRight config n c = rightContent config n c
 
 unfoldable pub placeRight : Config → State → ℕ → Bool
 placeRight config b n = rightPlace config b n
-
--- the first k statuses are at most 2
-unfoldable pub low : List ℕ → ℕ → Bool
-low s k = below k (λ i. leb (getD s i 0) 2)
 
 -- the bytes behind the first are 0, up to k
 unfoldable pub Zeros : List ℕ → ℕ → Type 0

@@ -1,4 +1,5 @@
 pub mod Splice
+pub mod Bytes
 pub mod Change
 pub mod Formed
 pub mod Fresh

@@ -3,6 +3,7 @@ ghost use mathlib.Core.Path.{_≡_};
 ghost use Prim.Native.Nat.{_+_, _≤_};
 ghost use lib.ListN.{length, getD};
 ghost use Rattle.model.specs.State.{contentBytes, valueBytes};
+ghost use Rattle.state.specs.Bytes.{Greater, Highest};
 ghost use Rattle.state.specs.Splice.{splice, part};
 use model::CONTENT_BYTES;
 
@@ -11,6 +12,28 @@ pub fn byte_at(column: &[u8], i: usize) -> u8
     ensures { λ r. ⌜ r ≡ getD (now (column .entry)) i 0 ⌝ }
 {
     if i < column.len() { column[i] } else { 0 }
+}
+
+// The greater of two bytes.
+fn greater(a: u8, b: u8) -> u8
+    ensures { λ r. ⌜ Greater a b r ⌝ }
+{
+    if a < b { b } else { a }
+}
+
+// The highest of the bytes from place `from` up to `to`; 0 if there is none. No byte ends the loop, so that it takes
+// many at a time.
+pub fn highest(s: &[u8], from: usize, to: usize) -> u8
+    requires { ⌜ (from ≤ to) × (to ≤ length (now s)) ⌝ }
+    ensures { λ r. ⌜ Highest (now (s .entry)) from to r ⌝ }
+{
+    let mut top = 0;
+    let mut i = from;
+    while i < to {
+        top = greater(top, s[i]);
+        i += 1;
+    }
+    top
 }
 
 // n bytes of `src` from place `from` on go to `dst`, from place `to` on.

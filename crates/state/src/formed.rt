@@ -1,18 +1,21 @@
 // Question 9: is the state well formed?
 ghost use mathlib.Core.Path.{_≡_};
 ghost use mathlib.Core.List.{[]};
+ghost use Prim.Native.Nat.{_+_, _<_};
 ghost use lib.ListN.{length};
-ghost use Rattle.model.specs.Config.{mostDrivers, mostDevices};
-ghost use Rattle.model.specs.State.{areaLength, view, wellFormed};
+ghost use Rattle.model.specs.State.{recordsFrom, areaLength, view, wellFormed};
 ghost use Rattle.state.specs.Change.{configOf};
-ghost use Rattle.state.specs.Formed.{statusesRight, isAssigned, assignmentRight, driversRight, devicesRight};
+ghost use Rattle.state.specs.Formed.{statusesRight, isAssigned, assignmentRight, assignmentsRight};
 ghost use Rattle.state.specs.Formed.{objectsRight, isValue, contentRight, placeRight};
 use crate::DEVICE_BYTES;
+use crate::DEVICES_FROM;
 use crate::DRIVER_BYTES;
+use crate::DRIVERS_FROM;
 use crate::EXISTING;
 use crate::MOST_STATUS;
 use crate::PARTITIONS;
 use crate::bytes::byte_at;
+use crate::bytes::highest;
 use crate::look::content;
 use crate::look::device;
 use crate::look::driver;
@@ -33,14 +36,7 @@ fn statuses_formed(area: &[u8], room: usize) -> bool
     if area[0] != 0 {
         return false;
     }
-    let mut i = 0;
-    while i < PARTITIONS {
-        if area[i] > MOST_STATUS {
-            return false;
-        }
-        i += 1;
-    }
-    true
+    highest(area, 0, PARTITIONS) <= MOST_STATUS
 }
 
 // A partition byte is 0 or names an existing partition.
@@ -59,38 +55,26 @@ fn assignment_formed(area: &[u8], room: usize, many: usize, n: usize, p: u8) -> 
     requires { ⌜ length (now area) ≡ areaLength room ⌝ }
     ensures { λ r. ⌜ r ≡ assignmentRight (view room (now (area .entry))) many n p ⌝ }
 {
-    if n <= many {
-        is_assigned(area, room, p)
-    } else {
-        p == 0
+    if p == 0 {
+        return true;
     }
+    if many < n {
+        return false;
+    }
+    status(area, room, p as usize) == EXISTING
 }
 
-// The partition bytes of all drivers.
-fn drivers_formed(area: &[u8], room: usize, many: usize) -> bool
+// The partition bytes of all drivers or of all devices: that of number n, up to `slots`, stands at place before + n.
+fn assignments_formed(area: &[u8], room: usize, before: usize, slots: usize, many: usize) -> bool
     requires { ⌜ length (now area) ≡ areaLength room ⌝ }
-    ensures { λ r. ⌜ r ≡ driversRight (view room (now (area .entry))) many mostDrivers ⌝ }
+    requires { ⌜ before + slots < recordsFrom ⌝ }
+    ensures { λ r.
+        ⌜ r ≡ assignmentsRight (view room (now (area .entry))) (now (area .entry)) before many slots ⌝ }
 {
     let mut i = 0;
-    while i < DRIVER_BYTES {
+    while i < slots {
         i += 1;
-        let p = driver(area, room, i);
-        if !assignment_formed(area, room, many, i, p) {
-            return false;
-        }
-    }
-    true
-}
-
-// The partition bytes of all devices.
-fn devices_formed(area: &[u8], room: usize, many: usize) -> bool
-    requires { ⌜ length (now area) ≡ areaLength room ⌝ }
-    ensures { λ r. ⌜ r ≡ devicesRight (view room (now (area .entry))) many mostDevices ⌝ }
-{
-    let mut i = 0;
-    while i < DEVICE_BYTES {
-        i += 1;
-        let p = device(area, room, i);
+        let p = area[before + i];
         if !assignment_formed(area, room, many, i, p) {
             return false;
         }
@@ -220,10 +204,22 @@ pub fn well_formed(area: &[u8], room: usize, config: Config) -> bool
     if !statuses_formed(area, room) {
         return false;
     }
-    if !drivers_formed(area, room, config.counts.drivers as usize) {
+    if !assignments_formed(
+        area,
+        room,
+        DRIVERS_FROM - 1,
+        DRIVER_BYTES,
+        config.counts.drivers as usize,
+    ) {
         return false;
     }
-    if !devices_formed(area, room, config.counts.devices as usize) {
+    if !assignments_formed(
+        area,
+        room,
+        DEVICES_FROM - 1,
+        DEVICE_BYTES,
+        config.counts.devices as usize,
+    ) {
         return false;
     }
     objects_formed(

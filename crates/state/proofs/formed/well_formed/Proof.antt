@@ -10,20 +10,26 @@ statuses-formed-requires c κs = search needs
 returns : tie.Need-returns
 returns c = search formed-status
 
-cast-drivers-formed : tie.Need-cast-drivers-formed
-cast-drivers-formed c = search needs
+sub-assignments-formed : tie.Need-sub-assignments-formed
+sub-assignments-formed c = search needs
 
-drivers-formed-requires : tie.Need-drivers-formed-requires
-drivers-formed-requires c κs = search needs
+cast-assignments-formed : tie.Need-cast-assignments-formed
+cast-assignments-formed c = search needs
+
+assignments-formed-requires : tie.Need-assignments-formed-requires
+assignments-formed-requires c κs = search needs
 
 returns-2 : tie.Need-returns-2
 returns-2 c = search formed-drivers
 
-cast-devices-formed : tie.Need-cast-devices-formed
-cast-devices-formed c = search needs
+sub-assignments-formed-2 : tie.Need-sub-assignments-formed-2
+sub-assignments-formed-2 c = search needs
 
-devices-formed-requires : tie.Need-devices-formed-requires
-devices-formed-requires c κs = search needs
+cast-assignments-formed-2 : tie.Need-cast-assignments-formed-2
+cast-assignments-formed-2 c = search needs
+
+assignments-formed-requires-2 : tie.Need-assignments-formed-requires-2
+assignments-formed-requires-2 c κs = search needs
 
 returns-3 : tie.Need-returns-3
 returns-3 c = search formed-devices
@@ -43,11 +49,13 @@ well-formed-spec =
     (tie.spec
     statuses-formed-requires
     returns
-    cast-drivers-formed
-    drivers-formed-requires
+    sub-assignments-formed
+    cast-assignments-formed
+    assignments-formed-requires
     returns-2
-    cast-devices-formed
-    devices-formed-requires
+    sub-assignments-formed-2
+    cast-assignments-formed-2
+    assignments-formed-requires-2
     returns-3
     cast-objects-formed
     objects-formed-requires
