@@ -2,4 +2,6 @@ pub mod Splicing
 pub mod Runs
 pub mod Places
 pub mod Forms
+pub mod Words
+pub mod Records
 pub mod Turns

@@ -1,20 +1,24 @@
 -- The parts of question 9, each as one test that the code answers.
-use Prim.Native.Nat.{ℕ, _+_, _≤_, _<_}
+use Prim.Native.Nat.{ℕ, _+_}
 use mathlib.Core.Path.{_≡_}
 use mathlib.Core.List.{List}
-use mathlib.Core.Bool.{Bool, _&&_}
+use mathlib.Core.Bool.{Bool, true, not, _&&_, _||_}
 use lib.ListN.{getD}
 use lib.Dec.{leb, eqb}
 use Rattle.model.specs.Base.{all, every}
+use Rattle.model.specs.Config.{kindOf, ownerOf, hardcodedOf}
 use Rattle.model.specs.State.{
   State,
   statusOf,
+  driverIn,
+  deviceIn,
+  objectIn,
+  contentOf,
   valueBytes,
   assigned,
   rightAssignment,
   sameBytes,
-  rightPlace,
-  rightContent,
+  withOwner,
   rightObject,
 }
 use Rattle.model.specs.declared.Config.{Config}
@@ -38,12 +42,18 @@ objectsRight config b k = every k (λ n. rightObject config b n)
 unfoldable pub isValue : List ℕ → ℕ → Bool
 isValue c v = sameBytes c (valueBytes v)
 
-unfoldable pub contentRight : Config → ℕ → List ℕ → Bool
-contentRight config n c = rightContent config n c
+unfoldable pub isValueTo : List ℕ → ℕ → Bool
+isValueTo c most = leb (getD c 0 0) most && isValue c (getD c 0 0)
+
+-- contents and partition of object n, which is present
+unfoldable pub contentRight : Config → State → ℕ → Bool
+contentRight config b n =
+    (not (eqb (kindOf config n) 1) || isValueTo (contentOf b n) (config .counts .values))
+    && (not (eqb (kindOf config n) 4) || isValue (contentOf b n) (hardcodedOf config (ownerOf config n)))
 
 unfoldable pub placeRight : Config → State → ℕ → Bool
-placeRight config b n = rightPlace config b n
+placeRight config b n = assigned b (objectIn b n) && withOwner config b n
 
--- the bytes behind the first are 0, up to k
-unfoldable pub Zeros : List ℕ → ℕ → Type 0
-Zeros c k = (i : ℕ) → 1 ≤ i → i < k → getD c i 0 ≡ 0
+-- every driver and every device is in no partition, or in an existing one
+unfoldable pub Housed : State → Type 0
+Housed b = (n : ℕ) → (assigned b (driverIn b n) ≡ true) × (assigned b (deviceIn b n) ≡ true)

@@ -1,9 +1,9 @@
 // Single bytes, and sixteen of them by value, read out of a slice and stored into one.
 ghost use mathlib.Core.Path.{_≡_};
-ghost use Prim.Native.Nat.{_+_, _≤_};
+ghost use Prim.Native.Nat.{_+_, _≤_, _<_};
 ghost use lib.ListN.{length, getD};
 ghost use Rattle.model.specs.State.{contentBytes, valueBytes};
-ghost use Rattle.state.specs.Bytes.{Greater, Highest};
+ghost use Rattle.state.specs.Bytes.{Greater, Highest, four, wordAt};
 ghost use Rattle.state.specs.Splice.{splice, part};
 use model::CONTENT_BYTES;
 
@@ -34,6 +34,30 @@ pub fn highest(s: &[u8], from: usize, to: usize) -> u8
         i += 1;
     }
     top
+}
+
+// A byte as a number of eight bytes.
+pub fn wide(b: u8) -> u64
+    ensures { λ r. ⌜ (r ≡ b) × (r < 256) ⌝ }
+{
+    b as u64
+}
+
+// Four bytes as one number, the first the lowest.
+fn join(a: u8, b: u8, c: u8, d: u8) -> u64
+    ensures { λ r. ⌜ (r ≡ four a b c d) × (r < 4294967296) ⌝ }
+{
+    wide(a) + 256 * wide(b) + 65536 * wide(c) + 16777216 * wide(d)
+}
+
+// The eight bytes from place `at` on as one number, the first the lowest: one load of the machine.
+pub fn word(s: &[u8], at: usize) -> u64
+    requires { ⌜ at + 8 ≤ length (now s) ⌝ }
+    ensures { λ r. ⌜ r ≡ wordAt (now (s .entry)) at ⌝ }
+{
+    let low = join(s[at], s[at + 1], s[at + 2], s[at + 3]);
+    let high = join(s[at + 4], s[at + 5], s[at + 6], s[at + 7]);
+    low + 4294967296 * high
 }
 
 // n bytes of `src` from place `from` on go to `dst`, from place `to` on.

@@ -1,12 +1,14 @@
 // Question 9: is the state well formed?
 ghost use mathlib.Core.Path.{_≡_};
 ghost use mathlib.Core.List.{[]};
-ghost use Prim.Native.Nat.{_+_, _<_};
+ghost use Prim.Native.Nat.{_+_, _≤_, _<_};
 ghost use lib.ListN.{length};
-ghost use Rattle.model.specs.State.{recordsFrom, areaLength, view, wellFormed};
+ghost use Rattle.model.specs.State.{contentBytes, recordsFrom, areaLength, view, wellFormed};
+ghost use Rattle.state.specs.Bytes.{Lesser};
+ghost use Rattle.state.specs.Splice.{part};
 ghost use Rattle.state.specs.Change.{configOf};
 ghost use Rattle.state.specs.Formed.{statusesRight, isAssigned, assignmentRight, assignmentsRight};
-ghost use Rattle.state.specs.Formed.{objectsRight, isValue, contentRight, placeRight};
+ghost use Rattle.state.specs.Formed.{objectsRight, isValue, isValueTo, contentRight, Housed, placeRight};
 use crate::DEVICE_BYTES;
 use crate::DEVICES_FROM;
 use crate::DRIVER_BYTES;
@@ -14,12 +16,14 @@ use crate::DRIVERS_FROM;
 use crate::EXISTING;
 use crate::MOST_STATUS;
 use crate::PARTITIONS;
+use crate::RECORD_BYTES;
+use crate::RECORDS_FROM;
 use crate::bytes::byte_at;
 use crate::bytes::highest;
-use crate::look::content;
+use crate::bytes::wide;
+use crate::bytes::word;
 use crate::look::device;
 use crate::look::driver;
-use crate::look::object;
 use crate::look::status;
 use model::CONTENT_BYTES;
 use model::Config;
@@ -27,6 +31,16 @@ use model::DEVICE_CLASS;
 use model::DRIVER_CLASS;
 use model::HARDCODED_KIND;
 use model::TRANSFER_KIND;
+
+// Contents are two words.
+const WORD_BYTES: usize = CONTENT_BYTES / 2;
+
+// The lesser of two numbers.
+fn lesser(a: usize, b: usize) -> usize
+    ensures { λ r. ⌜ Lesser a b r ⌝ }
+{
+    if a < b { a } else { b }
+}
 
 // Every status is 0, 1 or 2, and that of partition 0 is 0.
 fn statuses_formed(area: &[u8], room: usize) -> bool
@@ -61,7 +75,7 @@ fn assignment_formed(area: &[u8], room: usize, many: usize, n: usize, p: u8) -> 
     if many < n {
         return false;
     }
-    status(area, room, p as usize) == EXISTING
+    is_assigned(area, room, p)
 }
 
 // The partition bytes of all drivers or of all devices: that of number n, up to `slots`, stands at place before + n.
@@ -82,77 +96,68 @@ fn assignments_formed(area: &[u8], room: usize, before: usize, slots: usize, man
     true
 }
 
-// The sixteen bytes are those of value number v.
-fn is_value(c: [u8; CONTENT_BYTES], v: u8) -> bool
-    ensures { λ r. ⌜ r ≡ isValue c v ⌝ }
+// The sixteen bytes from place `at` on are those of value number v.
+fn is_value(area: &[u8], at: usize, v: u8) -> bool
+    requires { ⌜ at + contentBytes ≤ length (now area) ⌝ }
+    ensures { λ r. ⌜ r ≡ isValue (part (now (area .entry)) at contentBytes) v ⌝ }
 {
-    if c[0] != v {
+    if word(area, at) != wide(v) {
         return false;
     }
-    let mut i = 1;
-    while i < CONTENT_BYTES {
-        if c[i] != 0 {
-            return false;
-        }
-        i += 1;
-    }
-    true
+    word(area, at + WORD_BYTES) == 0
 }
 
-// The contents c of object n, which may be absent.
+// They are those of a value number of at most `most`.
+fn is_value_to(area: &[u8], at: usize, most: u8) -> bool
+    requires { ⌜ at + contentBytes ≤ length (now area) ⌝ }
+    ensures { λ r. ⌜ r ≡ isValueTo (part (now (area .entry)) at contentBytes) most ⌝ }
+{
+    if word(area, at) > wide(most) {
+        return false;
+    }
+    word(area, at + WORD_BYTES) == 0
+}
+
+// The contents of object n, which is present.
 fn content_formed<'a>(
-    objects: usize,
+    area: &[u8],
+    room: usize,
     values: u8,
     kind: &'a [u8],
     owner: &'a [u8],
     hardcoded: &'a [u8],
     n: usize,
-    c: [u8; CONTENT_BYTES],
 ) -> bool
+    requires { ⌜ length (now area) ≡ areaLength room ⌝ }
+    requires { ⌜ (1 ≤ n) × (n ≤ room) ⌝ }
     ensures { λ r.
         ⌜ r ≡ contentRight
-        (configOf objects values (now (kind .entry)) [] (now (owner .entry)) (now (hardcoded .entry))) n c ⌝ }
+        (configOf 0 values (now (kind .entry)) [] (now (owner .entry)) (now (hardcoded .entry)))
+        (view room (now (area .entry))) n ⌝ }
 {
-    if objects < n {
-        return is_value(c, 0);
-    }
+    let at = RECORDS_FROM - CONTENT_BYTES + RECORD_BYTES * n;
     let k = byte_at(kind, n);
-    if k == TRANSFER_KIND {
-        let v = c[0];
-        if values < v {
-            return false;
-        }
-        return is_value(c, v);
-    }
     if k == HARDCODED_KIND {
         let o = byte_at(owner, n);
         let v = byte_at(hardcoded, o as usize);
-        return is_value(c, v);
+        return is_value(area, at, v);
+    }
+    if k == TRANSFER_KIND {
+        return is_value_to(area, at, values);
     }
     true
 }
 
-// The partition of object n: its owner's, if it has one; 0, if the object is absent.
-fn place_formed<'a>(
-    area: &[u8],
-    room: usize,
-    objects: usize,
-    class: &'a [u8],
-    owner: &'a [u8],
-    n: usize,
-) -> bool
+// The partition of object n, which is present: its owner's, if it has one. Those of drivers and devices were looked at.
+fn place_formed<'a>(area: &[u8], room: usize, class: &'a [u8], owner: &'a [u8], n: usize) -> bool
     requires { ⌜ length (now area) ≡ areaLength room ⌝ }
+    requires { ⌜ (1 ≤ n) × (n ≤ room) ⌝ }
+    requires { ⌜ Housed (view room (now area)) ⌝ }
     ensures { λ r.
-        ⌜ r ≡ placeRight (configOf objects 0 [] (now (class .entry)) (now (owner .entry)) [])
+        ⌜ r ≡ placeRight (configOf 0 0 [] (now (class .entry)) (now (owner .entry)) [])
         (view room (now (area .entry))) n ⌝ }
 {
-    let p = object(area, room, n);
-    if objects < n {
-        return p == 0;
-    }
-    if !is_assigned(area, room, p) {
-        return false;
-    }
+    let p = area[RECORDS_FROM - RECORD_BYTES + RECORD_BYTES * n];
     let k = byte_at(class, n);
     if k == DRIVER_CLASS {
         let o = byte_at(owner, n);
@@ -162,10 +167,10 @@ fn place_formed<'a>(
         let o = byte_at(owner, n);
         return p == device(area, room, o as usize);
     }
-    true
+    is_assigned(area, room, p)
 }
 
-// The records of all objects, present and absent.
+// The records of all objects: of those that are present one after the other, of the absent ones all bytes together.
 fn objects_formed<'a>(
     area: &[u8],
     room: usize,
@@ -177,23 +182,24 @@ fn objects_formed<'a>(
     hardcoded: &'a [u8],
 ) -> bool
     requires { ⌜ length (now area) ≡ areaLength room ⌝ }
+    requires { ⌜ Housed (view room (now area)) ⌝ }
     ensures { λ r.
         ⌜ r ≡ objectsRight
         (configOf objects values (now (kind .entry)) (now (class .entry)) (now (owner .entry))
         (now (hardcoded .entry))) (view room (now (area .entry))) room ⌝ }
 {
+    let present = lesser(objects, room);
     let mut i = 0;
-    while i < room {
+    while i < present {
         i += 1;
-        if !place_formed(area, room, objects, class, owner, i) {
+        if !place_formed(area, room, class, owner, i) {
             return false;
         }
-        let c = content(area, room, i);
-        if !content_formed(objects, values, kind, owner, hardcoded, i, c) {
+        if !content_formed(area, room, values, kind, owner, hardcoded, i) {
             return false;
         }
     }
-    true
+    highest(area, RECORDS_FROM + RECORD_BYTES * present, area.len()) == 0
 }
 
 // Question 9, for an area of the right length.

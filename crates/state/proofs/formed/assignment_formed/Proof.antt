@@ -10,11 +10,11 @@ returns c = search assignment-none
 returns-2 : tie.Need-returns-2
 returns-2 c = search assignment-absent
 
-status-requires : tie.Need-status-requires
-status-requires c κs = search needs
+is-assigned-requires : tie.Need-is-assigned-requires
+is-assigned-requires c κs = search needs
 
 returns-3 : tie.Need-returns-3
 returns-3 c = search assignment-present
 
 pub assignment-formed-spec : {M : Type 1} → statement M
-assignment-formed-spec = tie.close (tie.spec returns returns-2 status-requires returns-3)
+assignment-formed-spec = tie.close (tie.spec returns returns-2 is-assigned-requires returns-3)

@@ -6,16 +6,26 @@ use borrow.Author.Needs.{needs}
 use Rattle.model.specs.State.{view}
 use Rattle.state.specs.Change.{configOf}
 use Rattle.state.specs.Formed.{objectsRight}
-use Rattle.state.proofs.Forms.{objects-none, objects-end, objects-place, objects-content, objects-on}
+use Rattle.state.proofs.Records.{
+  turn-in,
+  objects-none,
+  objects-place,
+  objects-content,
+  objects-on,
+  objects-end,
+}
 use Rattle.state.proofs.formed.objects_formed.Statement.{statement}
 use Rattle.state.proofs.formed.objects_formed.Tie as tie
 
 abbrev Inv-loop : tie.InvT-loop
-Inv-loop area room objects values kind class owner hardcoded i₀ i = (i ≤ room)
+Inv-loop area room objects values kind class owner hardcoded present i₀ i = (i ≤ present)
     × (objectsRight (configOf objects values kind class owner hardcoded) (view room area) i ≡ true)
 
 abbrev μ-loop : tie.MeasureT-loop
-μ-loop area room objects values kind class owner hardcoded i₀ i = room - i
+μ-loop area room objects values kind class owner hardcoded present i₀ i = present - i
+
+lesser-requires : tie.Need-lesser-requires Inv-loop μ-loop
+lesser-requires c κs = search needs
 
 loop-holds : tie.Need-loop-holds Inv-loop μ-loop
 loop-holds c = (search needs, search objects-none)
@@ -24,16 +34,13 @@ add-i : tie.Need-add-i Inv-loop μ-loop
 add-i c = search needs
 
 place-formed-requires : tie.Need-place-formed-requires Inv-loop μ-loop
-place-formed-requires c κs = search needs
+place-formed-requires c κs = (search needs, ((search needs, search turn-in), search needs))
 
 returns : tie.Need-returns Inv-loop μ-loop
 returns c = search objects-place
 
-content-requires : tie.Need-content-requires Inv-loop μ-loop
-content-requires c κs = search needs
-
 content-formed-requires : tie.Need-content-formed-requires Inv-loop μ-loop
-content-formed-requires c κs = search needs
+content-formed-requires c κs = (search needs, (search needs, search turn-in))
 
 returns-2 : tie.Need-returns-2 Inv-loop μ-loop
 returns-2 c = search objects-content
@@ -44,6 +51,15 @@ loop-less c = search needs
 loop-again : tie.Need-loop-again Inv-loop μ-loop
 loop-again c = (search needs, search objects-on)
 
+mul-highest : tie.Need-mul-highest Inv-loop μ-loop
+mul-highest c = search needs
+
+add-highest : tie.Need-add-highest Inv-loop μ-loop
+add-highest c = search needs
+
+highest-requires : tie.Need-highest-requires Inv-loop μ-loop
+highest-requires c κs = search needs
+
 returns-3 : tie.Need-returns-3 Inv-loop μ-loop
 returns-3 c = search objects-end
 
@@ -53,13 +69,16 @@ objects-formed-spec =
     (tie.spec
     Inv-loop
     μ-loop
+    lesser-requires
     loop-holds
     add-i
     place-formed-requires
     returns
-    content-requires
     content-formed-requires
     returns-2
     loop-less
     loop-again
+    mul-highest
+    add-highest
+    highest-requires
     returns-3)

@@ -1,6 +1,6 @@
 -- `state::formed::well_formed` meets its contract: a law for each part of the question. Assumes nothing.
 use borrow.Author.Needs.{needs}
-use Rattle.state.proofs.Forms.{formed-status, formed-drivers, formed-devices, formed-objects}
+use Rattle.state.proofs.Forms.{housed, formed-status, formed-drivers, formed-devices, formed-objects}
 use Rattle.state.proofs.formed.well_formed.Statement.{statement}
 use Rattle.state.proofs.formed.well_formed.Tie as tie
 
@@ -38,7 +38,11 @@ cast-objects-formed : tie.Need-cast-objects-formed
 cast-objects-formed c = search needs
 
 objects-formed-requires : tie.Need-objects-formed-requires
-objects-formed-requires c κs = search needs
+objects-formed-requires c κs =
+    let e = c .before .before .before .before .before .before .before .before .before in
+    let u = e .before .before .before .assignments-formed in
+    let v = e .before .assignments-formed2 in
+    (search needs, housed _ _ _ _ _ _ (u .ensures) (e .before .before .if2 .left) (v .ensures) (e .if3 .left))
 
 returns-4 : tie.Need-returns-4
 returns-4 c = search formed-objects
