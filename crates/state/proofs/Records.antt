@@ -7,13 +7,17 @@ use mathlib.Core.Bool.{Bool, true, false, not, _&&_}
 use native.Mathlib.Decide.{decLe}
 use native.Mathlib.Nat.{div-add-mod, mod-lt}
 use native.Mathlib.Omega.{arith}
-use lib.ListN.{length, getD}
+use lib.ListN.{length, getD, set, replicate}
+use lib.Seq.{getD-set-same, getD-set-other}
 use lib.Dec.{eqb}
 use borrow.Author.Tests.{not-true, not-false, eqb-true, le-leb, lt-leb, eq-eqb, ne-eqb}
 use Rattle.model.specs.Base.{every}
+use Rattle.model.specs.Config.{mostDrivers, mostDevices}
 use Rattle.model.specs.State.{
   contentBytes,
   recordBytes,
+  driversFrom,
+  devicesFrom,
   recordsFrom,
   objectPlace,
   contentPlace,
@@ -40,10 +44,13 @@ use Rattle.state.specs.Formed.{
   contentRight,
   placeRight,
   Housed,
+  byteValues,
+  Blank,
+  Homes,
 }
-use Rattle.state.proofs.Places.{object-in, content-in}
+use Rattle.state.proofs.Places.{driver-in, driver-out, device-in, device-out, object-in, content-in}
 use Rattle.state.proofs.Forms.{same-test, and-false, and-true, every-on, every-off}
-use Rattle.state.proofs.Words.{Alone, value-on, value-back}
+use Rattle.state.proofs.Words.{zero-at, Alone, value-on, value-back}
 
 -- contents of object n
 module _ (room : ℕ) (s : List ℕ) (fits : length s ≡ areaLength room) (n : ℕ) (low : 1 ≤ n) (high : n ≤ room) where
@@ -69,6 +76,56 @@ module _ (room : ℕ) (s : List ℕ) (fits : length s ≡ areaLength room) (n : 
     unfolding contentRight configOf
     content-free x y = rw (← q, ne-eqb k 1 y, ne-eqb k 4 x)
 
+-- tables of the partitions of drivers and devices
+pub blank : Blank (replicate byteValues 0)
+unfolding Blank
+blank n = zero-at byteValues n
+
+module _ (s : List ℕ) (before : ℕ) where
+  pub homes-none : (t : List ℕ) → Blank t → Homes s before 0 t
+  unfolding Blank
+  homes-none t z = record { inside = λ n l h. absurd (omega arith); first = z 0; behind = λ n h. z n }
+
+  pub homes-on : (slots i : ℕ) (t : List ℕ) → i < slots → slots < byteValues → length t ≡ byteValues
+      → Homes s before i t → Homes s before (i + 1) (set t (i + 1) (getD s (before + (i + 1)) 0))
+  homes-on slots i t l h u m =
+      record {
+        inside = λ n a b. go n a b (decLe n i);
+        first = getD-set-other t (i + 1) 0 v 0 (λ e. omega arith) ∙ m .first;
+        behind = λ n h. getD-set-other t (i + 1) n v 0 (λ e. omega arith) ∙ m .behind n (omega arith);
+      }
+    where
+      v : ℕ
+      v = getD s (before + (i + 1)) 0
+
+      go : (n : ℕ) → 1 ≤ n → n ≤ i + 1 → Dec (n ≤ i) → getD (set t (i + 1) v) n 0 ≡ getD s (before + n) 0
+      go n a b (yes q) = getD-set-other t (i + 1) n v 0 (λ e. omega arith) ∙ m .inside n a q
+      go n a b (no q) =
+          let e : n ≡ i + 1 = omega arith in
+          rw e (getD-set-same t (i + 1) v 0 (omega arith))
+
+  pub homes-end : (slots i : ℕ) (t : List ℕ) → i ≤ slots → slots ≤ i → Homes s before i t → Homes s before slots t
+  homes-end slots i t a b m =
+      let e : i ≡ slots = omega arith in
+      rw e at m
+
+module _ (room : ℕ) (s t : List ℕ) where
+  driver-home : Homes s (driversFrom - 1) mostDrivers t → (o : ℕ) → getD t o 0 ≡ driverIn (view room s) o
+  driver-home m zero = m .first
+  driver-home m (suc o) = go (decLe (suc o) mostDrivers)
+    where
+      go : Dec (suc o ≤ mostDrivers) → getD t (suc o) 0 ≡ driverIn (view room s) (suc o)
+      go (yes q) = m .inside (suc o) (omega arith) q ∙ driver-in room s (suc o) (λ e. omega arith) q
+      go (no q) = m .behind (suc o) (omega arith) ∙ driver-out room s (suc o) (omega arith)
+
+  device-home : Homes s (devicesFrom - 1) mostDevices t → (o : ℕ) → getD t o 0 ≡ deviceIn (view room s) o
+  device-home m zero = m .first
+  device-home m (suc o) = go (decLe (suc o) mostDevices)
+    where
+      go : Dec (suc o ≤ mostDevices) → getD t (suc o) 0 ≡ deviceIn (view room s) (suc o)
+      go (yes q) = m .inside (suc o) (omega arith) q ∙ device-in room s (suc o) (λ e. omega arith) q
+      go (no q) = m .behind (suc o) (omega arith) ∙ device-out room s (suc o) (omega arith)
+
 -- its partition
 settled : (b : State) (p d : ℕ) → assigned b d ≡ true → eqb p d ≡ (assigned b p && eqb p d)
 settled b p d h = go (bool-cases (eqb p d))
@@ -87,19 +144,22 @@ module _ (room : ℕ) (s : List ℕ) (n : ℕ) (low : 1 ≤ n) (high : n ≤ roo
   there : objectIn (view room s) n ≡ getD s (objectPlace n) 0
   there = sym (object-in room s n (λ e. omega arith) high)
 
-  pub place-driver : (o d : ℕ) → Housed (view room s) → k ≡ 1 → o ≡ getD owner n 0 → d ≡ driverIn (view room s) o
-      → eqb (getD s (objectPlace n) 0) d ≡ placeRight placing (view room s) n
+  pub place-driver : (o : ℕ) (t : List ℕ) → Housed (view room s) → Homes s (driversFrom - 1) mostDrivers t → k ≡ 1
+      → o ≡ getD owner n 0 → eqb (getD s (objectPlace n) 0) (getD t o 0) ≡ placeRight placing (view room s) n
   unfolding placeRight configOf Housed
-  place-driver o d h a f g =
+  place-driver o t h m a f =
+      let g : getD t o 0 ≡ driverIn (view room s) o = driver-home room s t m o in
       rw (there, ← q, a, ← f, ← g)
-      (rw (and-true (eqb (getD s (objectPlace n) 0) d))
-      (settled (view room s) (getD s (objectPlace n) 0) d (rw g (h o .0))))
+      (rw (and-true (eqb (getD s (objectPlace n) 0) (getD t o 0)))
+      (settled (view room s) (getD s (objectPlace n) 0) (getD t o 0) (rw g (h o .0))))
 
-  pub place-device : (o d : ℕ) → Housed (view room s) → k ≡ 2 → o ≡ getD owner n 0 → d ≡ deviceIn (view room s) o
-      → eqb (getD s (objectPlace n) 0) d ≡ placeRight placing (view room s) n
+  pub place-device : (o : ℕ) (t : List ℕ) → Housed (view room s) → Homes s (devicesFrom - 1) mostDevices t → k ≡ 2
+      → o ≡ getD owner n 0 → eqb (getD s (objectPlace n) 0) (getD t o 0) ≡ placeRight placing (view room s) n
   unfolding placeRight configOf Housed
-  place-device o d h a f g =
-      rw (there, ← q, a, ← f, ← g) (settled (view room s) (getD s (objectPlace n) 0) d (rw g (h o .1)))
+  place-device o t h m a f =
+      let g : getD t o 0 ≡ deviceIn (view room s) o = device-home room s t m o in
+      rw (there, ← q, a, ← f, ← g)
+      (settled (view room s) (getD s (objectPlace n) 0) (getD t o 0) (rw g (h o .1)))
 
   pub place-free : (r : Bool) → (k ≡ 1 → ⊥) → (k ≡ 2 → ⊥) → r ≡ isAssigned (view room s) (getD s (objectPlace n) 0)
       → r ≡ placeRight placing (view room s) n

@@ -29,7 +29,7 @@ same-on : (x : List ℕ) → sameBytes x x ≡ true
 same-on [] = refl
 same-on (a ∷ x) = rw (eq-eqb a a refl) (same-on x)
 
-zero-at : (k i : ℕ) → getD {A = ℕ} (replicate k 0) i 0 ≡ 0
+pub zero-at : (k i : ℕ) → getD {A = ℕ} (replicate k 0) i 0 ≡ 0
 zero-at zero i = refl
 zero-at (suc k) zero = refl
 zero-at (suc k) (suc i) = zero-at k i

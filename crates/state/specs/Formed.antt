@@ -1,5 +1,5 @@
 -- The parts of question 9, each as one test that the code answers.
-use Prim.Native.Nat.{ℕ, _+_}
+use Prim.Native.Nat.{ℕ, _+_, _≤_, _<_}
 use mathlib.Core.Path.{_≡_}
 use mathlib.Core.List.{List}
 use mathlib.Core.Bool.{Bool, true, not, _&&_, _||_}
@@ -57,3 +57,16 @@ placeRight config b n = assigned b (objectIn b n) && withOwner config b n
 -- every driver and every device is in no partition, or in an existing one
 unfoldable pub Housed : State → Type 0
 Housed b = (n : ℕ) → (assigned b (driverIn b n) ≡ true) × (assigned b (deviceIn b n) ≡ true)
+
+-- how many values a byte has
+abbrev pub byteValues : ℕ
+byteValues = 256
+
+unfoldable pub Blank : List ℕ → Type 0
+Blank t = (n : ℕ) → getD t n 0 ≡ 0
+
+-- the table t has the bytes of the numbers 1 to k, which stand behind place `before` of the area s, and else 0
+pub record Homes (s : List ℕ) (before k : ℕ) (t : List ℕ) : Type 0 where
+  pub inside : (n : ℕ) → 1 ≤ n → n ≤ k → getD t n 0 ≡ getD s (before + n) 0
+  pub first : getD t 0 0 ≡ 0
+  pub behind : (n : ℕ) → k < n → getD t n 0 ≡ 0

@@ -1,14 +1,17 @@
 // Question 9: is the state well formed?
 ghost use mathlib.Core.Path.{_≡_};
 ghost use mathlib.Core.List.{[]};
-ghost use Prim.Native.Nat.{_+_, _≤_, _<_};
+ghost use Prim.Native.Nat.{_+_, _-_, _≤_, _<_};
 ghost use lib.ListN.{length};
-ghost use Rattle.model.specs.State.{contentBytes, recordsFrom, areaLength, view, wellFormed};
+ghost use Rattle.model.specs.Config.{mostDrivers, mostDevices};
+ghost use Rattle.model.specs.State.{contentBytes, driversFrom, devicesFrom, recordsFrom};
+ghost use Rattle.model.specs.State.{areaLength, view, wellFormed};
 ghost use Rattle.state.specs.Bytes.{Lesser};
 ghost use Rattle.state.specs.Splice.{part};
 ghost use Rattle.state.specs.Change.{configOf};
 ghost use Rattle.state.specs.Formed.{statusesRight, isAssigned, assignmentRight, assignmentsRight};
 ghost use Rattle.state.specs.Formed.{objectsRight, isValue, isValueTo, contentRight, Housed, placeRight};
+ghost use Rattle.state.specs.Formed.{byteValues, Blank, Homes};
 use crate::DEVICE_BYTES;
 use crate::DEVICES_FROM;
 use crate::DRIVER_BYTES;
@@ -22,8 +25,6 @@ use crate::bytes::byte_at;
 use crate::bytes::highest;
 use crate::bytes::wide;
 use crate::bytes::word;
-use crate::look::device;
-use crate::look::driver;
 use crate::look::status;
 use model::CONTENT_BYTES;
 use model::Config;
@@ -34,6 +35,9 @@ use model::TRANSFER_KIND;
 
 // Contents are two words.
 const WORD_BYTES: usize = CONTENT_BYTES / 2;
+
+// How many values a byte has.
+const BYTE_VALUES: usize = 256;
 
 // The lesser of two numbers.
 fn lesser(a: usize, b: usize) -> usize
@@ -148,11 +152,35 @@ fn content_formed<'a>(
     true
 }
 
+// What the partition bytes of drivers or of devices say of every number that a byte may be: that of number n, up to
+// `slots`, stands at place before + n; other numbers have 0.
+fn fill_homes(area: &[u8], before: usize, slots: usize, homes: &mut [u8; BYTE_VALUES])
+    requires { ⌜ (before + slots < length (now area)) × (slots < byteValues) ⌝ }
+    requires { ⌜ (length (now homes) ≡ byteValues) × Blank (now homes) ⌝ }
+    ensures { λ _. ⌜ Homes (now (area .entry)) before slots (now (homes .exit)) ⌝ }
+{
+    let mut i = 0;
+    while i < slots {
+        i += 1;
+        homes[i] = area[before + i];
+    }
+}
+
 // The partition of object n, which is present: its owner's, if it has one. Those of drivers and devices were looked at.
-fn place_formed<'a>(area: &[u8], room: usize, class: &'a [u8], owner: &'a [u8], n: usize) -> bool
+fn place_formed<'a>(
+    area: &[u8],
+    room: usize,
+    class: &'a [u8],
+    owner: &'a [u8],
+    drivers: &'a [u8; BYTE_VALUES],
+    devices: &'a [u8; BYTE_VALUES],
+    n: usize,
+) -> bool
     requires { ⌜ length (now area) ≡ areaLength room ⌝ }
     requires { ⌜ (1 ≤ n) × (n ≤ room) ⌝ }
     requires { ⌜ Housed (view room (now area)) ⌝ }
+    requires { ⌜ Homes (now area) (driversFrom - 1) mostDrivers (now drivers) ⌝ }
+    requires { ⌜ Homes (now area) (devicesFrom - 1) mostDevices (now devices) ⌝ }
     ensures { λ r.
         ⌜ r ≡ placeRight (configOf 0 0 [] (now (class .entry)) (now (owner .entry)) [])
         (view room (now (area .entry))) n ⌝ }
@@ -161,11 +189,11 @@ fn place_formed<'a>(area: &[u8], room: usize, class: &'a [u8], owner: &'a [u8], 
     let k = byte_at(class, n);
     if k == DRIVER_CLASS {
         let o = byte_at(owner, n);
-        return p == driver(area, room, o as usize);
+        return p == drivers[o as usize];
     }
     if k == DEVICE_CLASS {
         let o = byte_at(owner, n);
-        return p == device(area, room, o as usize);
+        return p == devices[o as usize];
     }
     is_assigned(area, room, p)
 }
@@ -188,11 +216,15 @@ fn objects_formed<'a>(
         (configOf objects values (now (kind .entry)) (now (class .entry)) (now (owner .entry))
         (now (hardcoded .entry))) (view room (now (area .entry))) room ⌝ }
 {
+    let mut drivers = [0u8; BYTE_VALUES];
+    fill_homes(area, DRIVERS_FROM - 1, DRIVER_BYTES, &mut drivers);
+    let mut devices = [0u8; BYTE_VALUES];
+    fill_homes(area, DEVICES_FROM - 1, DEVICE_BYTES, &mut devices);
     let present = lesser(objects, room);
     let mut i = 0;
     while i < present {
         i += 1;
-        if !place_formed(area, room, class, owner, i) {
+        if !place_formed(area, room, class, owner, &drivers, &devices, i) {
             return false;
         }
         if !content_formed(area, room, values, kind, owner, hardcoded, i) {

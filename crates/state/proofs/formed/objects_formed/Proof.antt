@@ -7,6 +7,7 @@ use Rattle.model.specs.State.{view}
 use Rattle.state.specs.Change.{configOf}
 use Rattle.state.specs.Formed.{objectsRight}
 use Rattle.state.proofs.Records.{
+  blank,
   turn-in,
   objects-none,
   objects-place,
@@ -18,11 +19,23 @@ use Rattle.state.proofs.formed.objects_formed.Statement.{statement}
 use Rattle.state.proofs.formed.objects_formed.Tie as tie
 
 abbrev Inv-loop : tie.InvT-loop
-Inv-loop area room objects values kind class owner hardcoded present i₀ i = (i ≤ present)
+Inv-loop area room objects values kind class owner hardcoded drivers devices present i₀ i = (i ≤ present)
     × (objectsRight (configOf objects values kind class owner hardcoded) (view room area) i ≡ true)
 
 abbrev μ-loop : tie.MeasureT-loop
-μ-loop area room objects values kind class owner hardcoded present i₀ i = present - i
+μ-loop area room objects values kind class owner hardcoded drivers devices present i₀ i = present - i
+
+sub-fill-homes : tie.Need-sub-fill-homes Inv-loop μ-loop
+sub-fill-homes c = search needs
+
+fill-homes-requires : tie.Need-fill-homes-requires Inv-loop μ-loop
+fill-homes-requires c κs = ((search needs, search needs), (search needs, search blank))
+
+sub-fill-homes-2 : tie.Need-sub-fill-homes-2 Inv-loop μ-loop
+sub-fill-homes-2 c = search needs
+
+fill-homes-requires-2 : tie.Need-fill-homes-requires-2 Inv-loop μ-loop
+fill-homes-requires-2 c κs = ((search needs, search needs), (search needs, search blank))
 
 lesser-requires : tie.Need-lesser-requires Inv-loop μ-loop
 lesser-requires c κs = search needs
@@ -34,7 +47,8 @@ add-i : tie.Need-add-i Inv-loop μ-loop
 add-i c = search needs
 
 place-formed-requires : tie.Need-place-formed-requires Inv-loop μ-loop
-place-formed-requires c κs = (search needs, ((search needs, search turn-in), search needs))
+place-formed-requires c κs =
+    (search needs, ((search needs, search turn-in), (search needs, (search needs, search needs))))
 
 returns : tie.Need-returns Inv-loop μ-loop
 returns c = search objects-place
@@ -69,6 +83,10 @@ objects-formed-spec =
     (tie.spec
     Inv-loop
     μ-loop
+    sub-fill-homes
+    fill-homes-requires
+    sub-fill-homes-2
+    fill-homes-requires-2
     lesser-requires
     loop-holds
     add-i

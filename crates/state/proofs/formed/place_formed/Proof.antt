@@ -22,11 +22,11 @@ byte-at-requires c κs = search needs
 byte-at-requires-2 : tie.Need-byte-at-requires-2
 byte-at-requires-2 c κs = search needs
 
-cast-driver : tie.Need-cast-driver
-cast-driver c = search needs
+cast-result : tie.Need-cast-result
+cast-result c = search needs
 
-driver-requires : tie.Need-driver-requires
-driver-requires c κs = search needs
+element-copy-out-result : tie.Need-element-copy-out-result
+element-copy-out-result c = search needs
 
 returns : tie.Need-returns
 returns c = search place-driver
@@ -34,11 +34,11 @@ returns c = search place-driver
 byte-at-requires-3 : tie.Need-byte-at-requires-3
 byte-at-requires-3 c κs = search needs
 
-cast-device : tie.Need-cast-device
-cast-device c = search needs
+cast-result-2 : tie.Need-cast-result-2
+cast-result-2 c = search needs
 
-device-requires : tie.Need-device-requires
-device-requires c κs = search needs
+element-copy-out-result-2 : tie.Need-element-copy-out-result-2
+element-copy-out-result-2 c = search needs
 
 returns-2 : tie.Need-returns-2
 returns-2 c = search place-device
@@ -59,12 +59,12 @@ place-formed-spec =
     shared-slice-read-p
     byte-at-requires
     byte-at-requires-2
-    cast-driver
-    driver-requires
+    cast-result
+    element-copy-out-result
     returns
     byte-at-requires-3
-    cast-device
-    device-requires
+    cast-result-2
+    element-copy-out-result-2
     returns-2
     is-assigned-requires
     returns-3)
