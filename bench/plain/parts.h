@@ -1,0 +1,107 @@
+// What the files of the plain gate share. For x86-64 and its like: words are read with the lowest byte first.
+#ifndef PARTS_H
+#define PARTS_H
+
+#include <stdbool.h>
+#include <stddef.h>
+#include <stdint.h>
+#include <string.h>
+
+enum { MOST_DRIVERS = 16, MOST_CARDS = 16, MOST_OBJECTS = 96, MOST_VALUES = 47, MOST_ENTRIES = 6, MOST_ITEMS = 8 };
+enum { PARTITIONS = 64, CONTENT = 16, RECORD = 1 + CONTENT, ANSWER_BYTES = MOST_ITEMS * CONTENT };
+enum { DRIVERS_AT = PARTITIONS, CARDS_AT = DRIVERS_AT + MOST_DRIVERS, RECORDS_AT = CARDS_AT + MOST_CARDS };
+enum { STATE_BYTES = RECORDS_AT + RECORD * MOST_OBJECTS };
+
+enum kind { TRANSFER = 1, FUNCTION = 2, DATA = 3, HARDWIRED = 4 };
+enum class { EXTERNAL = 0, BY_DRIVER = 1, BY_CARD = 2 };
+enum mode { READ = 1, WRITE = 2 };
+enum standing { NEVER_USED = 0, EXISTING = 1, DESTROYED = 2 };
+
+enum code {
+    DRIVER_WRITE = 1,
+    CARD_WRITE,
+    DRIVER_READ,
+    CARD_READ,
+    CREATE,
+    DESTROY,
+    DRIVER_IN,
+    CARD_IN,
+    OBJECTS_IN,
+    DRIVER_OUT,
+    CARD_OUT,
+    OBJECTS_OUT
+};
+
+// A line file that meets questions 1 to 6. All of its numbers are then below 128 and have one byte each, so that it is
+// used where it stands; kept are places in it.
+struct line {
+    const uint8_t *bytes;
+    const uint8_t *hardwired;               // the cards' value numbers; that of card 1 is at place 1
+    const uint8_t *values[MOST_VALUES + 1]; // the entry count of each value, then its entries
+    uint8_t drivers, cards, objects, count; // count: how many values
+    uint8_t descriptor[MOST_CARDS + 1];     // each card's object of kind 4
+};
+
+// An object's three numbers in the file.
+static inline const uint8_t *declared(const struct line *line, uint32_t object) {
+    return line->bytes + 2 + 3 * object;
+}
+
+static inline uint8_t kind_of(const struct line *line, uint32_t object) {
+    return *declared(line, object);
+}
+
+// An object's record in the state: its partition, then its contents.
+static inline size_t record_at(uint32_t object) {
+    return RECORDS_AT - RECORD + (size_t)RECORD * object;
+}
+
+// Where a driver's or a card's partition stands in the state.
+static inline size_t owner_at(uint32_t class, uint32_t number) {
+    return DRIVERS_AT - MOST_DRIVERS - 1 + MOST_DRIVERS * class + number;
+}
+
+static inline uint64_t word_at(const uint8_t *bytes) {
+    uint64_t word;
+    memcpy(&word, bytes, sizeof word);
+    return word;
+}
+
+// A record taken apart; what its code does not have is not set.
+struct operation {
+    uint32_t code, owner, partition, count;
+    uint32_t object[MOST_ITEMS];    // targets, sources or listed objects
+    uint32_t value[MOST_ITEMS];     // what is written into kind 1; 0 for form 1
+    uint32_t into[MOST_ITEMS];      // destinations of a read
+    const uint8_t *raw[MOST_ITEMS]; // the sixteen bytes of form 1, NULL for form 0
+};
+
+// A number in up to three bytes, the shortest form, at most 65,535 (question 2); `*at` is moved behind it.
+enum reading { GOT, CUT, BAD };
+enum reading read_long(const uint8_t **at, const uint8_t *end, uint32_t *number);
+
+// Questions 1 to 6: the first that is answered with no, or 0.
+uint32_t load(struct line *line, const uint8_t *bytes, size_t length);
+
+// Question 9.
+bool well_formed(const struct line *line, const uint8_t *state);
+
+// Question 10.
+bool take_apart(struct operation *operation, const uint8_t *record, size_t length);
+
+// Questions 11 to 17: the first that is answered with no, or 0.
+uint32_t ask_record(const struct line *line, const uint8_t *state, const struct operation *operation);
+
+// Question 18, for codes 2 and 4.
+bool described(const struct line *line, const uint8_t *state, const struct operation *operation);
+
+// Question 19, for codes 1 and 3: asked of the state that would follow. The state is as it was when this returns.
+bool stays_inside(const struct line *line, uint8_t *state, const struct operation *operation);
+
+// Question 20, for codes 10 to 12.
+bool may_leave(const struct line *line, const uint8_t *state, const struct operation *operation);
+
+// What an accepted operation does to the areas.
+void carry_out(const struct line *line, uint8_t *state, const struct operation *operation, uint8_t *answer);
+
+#endif
