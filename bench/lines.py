@@ -1,4 +1,7 @@
-"""Configurations and states for the benchmark: the bytes of a line file, of a state area, and of a record for it."""
+"""Configurations and states for the benchmark: the bytes of a line file, of a state area, and of a record for it.
+
+Here are the lines of the older tables; bench/full.py has those on which the library and the plain gate are compared.
+"""
 import pathlib
 import random
 import sys
@@ -15,7 +18,8 @@ AT_HOME, STRANGER = 1, 2
 
 class Line:
     """A configuration with everything in partition 1, or in none if `inactive`, but the objects `elsewhere` and the
-    drivers `strangers`, which are in 2; objects are (kind, class, owner), and values lists of entries."""
+    drivers `strangers`, which are in 2, and what is `asleep`, a pair of class and owner, or a number for an external
+    object, which is in none; objects are (kind, class, owner), and values lists of entries."""
 
     def __init__(self, drivers, devices, objects, values, last=False):
         """The hardcoded descriptors have the smallest numbers, or the largest if `last`."""
@@ -28,6 +32,7 @@ class Line:
         self.held = {}
         self.elsewhere = set()
         self.strangers = set()
+        self.asleep = set()
         self.inactive = False
 
     def own(self, device):
@@ -47,11 +52,12 @@ class Line:
         area[1] = area[2] = 1
         place = 0 if self.inactive else 1
         for i in range(self.drivers):
-            area[DRIVERS_FROM + i] = 2 if i + 1 in self.strangers else place
+            area[DRIVERS_FROM + i] = 2 if i + 1 in self.strangers else 0 if (1, i + 1) in self.asleep else place
         for i in range(self.devices):
-            area[DEVICES_FROM + i] = place
-        for n, (kind, _, owner) in self.objects.items():
-            area[record_at(n)] = 2 if n in self.elsewhere else place
+            area[DEVICES_FROM + i] = 0 if (2, i + 1) in self.asleep else place
+        for n, (kind, group, owner) in self.objects.items():
+            away = (group, owner) in self.asleep or n in self.asleep
+            area[record_at(n)] = 2 if n in self.elsewhere else 0 if away else place
             area[record_at(n) + 1] = self.hardcoded[owner] if kind == 4 else self.held.get(n, 0)
         return bytes(area)
 

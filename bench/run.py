@@ -1,9 +1,10 @@
 #!/usr/bin/env python3
-"""Instructions by callgrind, in one run: a load check beside a plain C loader's, one search of the closure, whole
-calls, where their instructions go, calls beside the second implementation; and the stack that a call takes.
+"""Instructions by callgrind, in one run: calls beside a gate in plain C, which must first agree with the library, and
+how both grow with a chain; one search of the closure, whole calls, where their instructions go, calls beside the second
+implementation; and the stack that a call takes.
 
     bench/run.py            all tables; needs rt, make, gcc, cargo and valgrind
-    bench/run.py NAME..     some of them: load, search, operate, parts, reference, stack
+    bench/run.py NAME..     some of them: load, beside, growth, search, operate, parts, reference, stack
 """
 import pathlib
 import sys
@@ -11,6 +12,7 @@ import tempfile
 
 TOP = pathlib.Path(__file__).resolve().parent.parent
 sys.path.insert(0, str(TOP / "tests"))
+import beside  # noqa: E402
 import lines  # noqa: E402
 import parts  # noqa: E402
 import stack  # noqa: E402
@@ -21,7 +23,7 @@ CHAINS = (1, 10, 40)
 
 
 def load_table(folder):
-    program = build(f"{folder}/load", "gate", "bench/load.c", "bench/plain.c")
+    program = build(f"{folder}/load", "gate", "bench/load.c", *beside.PLAIN)
     print(f"{'load check':<36}{'bytes':>6}{'answer':>8}{'plain C':>10}{'library':>10}{'ratio':>8}")
     cases = [("document 01's L", vectors.row(vectors.L), "0"), ("every count at its limit", vectors.full_size(), "0"),
              ("65,535 bytes, no last one", bytes([255] * 65535), "1")]
@@ -101,8 +103,10 @@ def reference_table(folder):
             print(f"{label:<42}{first:>6}{other:>12}{gate:>10}{other / gate:>8.1f}")
 
 
-TABLES = {"load": load_table, "search": search_table, "operate": operate_table, "parts": parts.table,
-          "reference": reference_table, "stack": stack.table}
+TABLES = {"load": load_table, "beside": beside.table, "growth": beside.growth_table, "search": search_table,
+          "operate": operate_table, "parts": parts.table, "reference": reference_table, "stack": stack.table}
+# The tables that have figures of the plain gate.
+WITH_PLAIN = {"load", "beside", "growth"}
 
 
 def main():
@@ -110,6 +114,9 @@ def main():
     if not set(names) <= set(TABLES):
         sys.exit(f"bench/run.py [NAME..], a NAME is one of {', '.join(TABLES)}")
     with tempfile.TemporaryDirectory() as folder:
+        if WITH_PLAIN & set(names):
+            beside.agree(folder)
+            print()
         for place, name in enumerate(names):
             if place:
                 print()

@@ -1,0 +1,105 @@
+"""The library beside a gate in plain C (bench/plain): instructions of the same calls on the same bytes, and how both
+grow with the length of a chain. Both must give the stated answer and leave the same areas, or the run ends.
+"""
+import pathlib
+
+import full
+import lines
+import vectors
+from measure import TIMES, build, expect, one_call, run, write_case
+
+TOP = pathlib.Path(__file__).resolve().parent.parent
+PLAIN = sorted(str(path.relative_to(TOP)) for path in (TOP / "bench" / "plain").glob("*.c"))
+SIZES = (("full", {}), ("quarter", lines.QUARTER))
+CHAINS = (1, 10, 40)
+ORDERS = ("rising", "falling", "shuffled")
+# Generated calls that must agree before anything is counted: a gate that is wrong is no mark.
+AGREEING = 200000
+RAW = bytes(range(16))
+
+
+def program(folder):
+    return build(f"{folder}/beside", "gate", "-Iinclude", "bench/beside.c", *PLAIN)
+
+
+def agree(folder):
+    """Ends the run if the plain gate and the library differ."""
+    made = build(f"{folder}/agree", "gate", "-Iinclude", "-Ibench", "bench/agree.c", "bench/linked.c",
+                 "tests/inputs.c", "tests/effect.c", *PLAIN)
+    print(run(made, AGREEING, 1).stdout, end="")
+
+
+def both(folder, made, label, call, line, record, stated, times=TIMES):
+    """Instructions of the plain gate and of the library for one case."""
+    paths = write_case(folder, line, record)
+    expect(label, stated, run(made, call, *paths, 1, "both").stdout.strip())
+    (plain, first), (gate, second) = (one_call(folder, made, call, *paths, who, times=times)
+                                      for who in ("plain", "gate"))
+    expect(label, stated, first, second)
+    return plain, gate
+
+
+def card_writes(line):
+    """Eight items that device 1 may write with the values of the moment."""
+    items = list(full.described(line, 1).items())[-8:]
+    return vectors.row([2, 1, len(items)]) + b"".join(
+        vectors.row([n, 0, put]) if line.objects[n][0] == 1 else vectors.row([n, 1]) + RAW for n, put in items)
+
+
+def into_chain(line, steps):
+    """A driver writes the value from which the chain has so many steps."""
+    return vectors.row([1, 1, 1, line.first, 0, line.start[steps]])
+
+
+def cases(size):
+    """A label, what is called, a line, a record and the answer."""
+    dense, little = full.mixed(**size), full.little(**size)
+    last, data = len(dense.objects), dense.data
+    write = vectors.row([1, 1, 1, last, 1]) + RAW
+    copies = sum(([n, n + 1] for n in data[:-1]), [])
+    yield "load check", "load", dense, b"", "0"
+    yield "fresh state", "fresh", dense, b"", "0"
+    yield "driver writes data, little active", "operate", little, write, "0"
+    yield "driver writes data, dense", "operate", dense, write, "0"
+    line = full.links("rising", 6, **size)
+    for steps in CHAINS:
+        if steps in line.start:
+            yield f"write refused, chain of {steps}", "operate", line, into_chain(line, steps), "19"
+    yield "driver reads eight with copies, little active", "operate", little, vectors.row([3, 1, 8] + copies), "0"
+    absent = full.without_device(**size)
+    yield "activate a card, dense", "operate", absent, vectors.row([8, absent.devices, 1]), "0"
+    yield "object leaves, dense", "operate", dense, vectors.row([12, 1, 1, last]), "0"
+    yield "card writes eight items, dense", "operate", dense, card_writes(dense), "0"
+
+
+def table(folder):
+    made = program(folder)
+    print(f"{'beside plain C':<56}{'answer':>6}{'plain C':>10}{'library':>10}{'ratio':>8}")
+    for name, size in SIZES:
+        for label, call, line, record, stated in cases(size):
+            label = f"{name}: {label}"
+            plain, gate = both(folder, made, label, call, line, record, stated)
+            print(f"{label:<56}{stated:>6}{plain:>10}{gate:>10}{gate / plain:>8.2f}")
+
+
+def growth_row(label, counts):
+    return f"{label:<26}" + "".join(f"{n:>10}" for n in counts)
+
+
+def growth_table(folder):
+    """Writes that question 19 refuses by chains of growing length, all on one line for each order of numbers."""
+    made = program(folder)
+    print(f"{'numbers along the chain':<26}" + "".join(f"{order:>20}" for order in ORDERS))
+    print(growth_row("instructions of a call", ("plain C", "library") * len(ORDERS)))
+    chains = [full.links(order, 1) for order in ORDERS]
+    longest, before, links = max(chains[0].start), None, []
+    for steps in (1, *range(5, longest, 5), longest):
+        counts = []
+        for order, line in zip(ORDERS, chains):
+            counts += both(folder, made, f"{order}, {steps}", "operate", line, into_chain(line, steps), "19")
+        print(growth_row(f"chain of {steps}", counts))
+        if before:
+            links.append([(now - then) / (steps - before[0]) for now, then in zip(counts, before[1])])
+        before = steps, counts
+    print(growth_row("a further link, at least", [round(min(column)) for column in zip(*links)]))
+    print(growth_row("a further link, at most", [round(max(column)) for column in zip(*links)]))

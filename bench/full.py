@@ -1,0 +1,95 @@
+"""Lines on which the library and the plain gate are compared: every value has six entries, whatever is active."""
+import random
+
+from lines import BOTH, READ, WRITE, Line
+
+# External data at the end of the objects: what drivers write, and copy eight of at once.
+DATA = 9
+
+
+def mixed(devices=16, objects=96, values=47, seed=1):
+    """Six random entries in every value, all within the one partition. A third of the values are the devices'; the last
+    objects are external data, and nobody names the very last one."""
+    rnd = random.Random(seed)
+    line = Line(devices, devices, objects, values)
+    line.data = list(range(objects - DATA + 1, objects + 1))
+    for n in line.data:
+        line.objects[n] = (3, 0, 0)
+    descriptors = [n for n, o in line.objects.items() if o[0] == 1]
+    first = values // 3 + 1
+    for c in line.hardcoded:
+        line.hardcoded[c] = c if c < first else 0
+    for v in line.values:
+        for _ in range(6):
+            if v < first:
+                line.values[v].append((rnd.choice(line.own(v)), READ, 0))
+                continue
+            mode, named = rnd.choice([READ, WRITE, BOTH]), rnd.choice(descriptors + line.data[:-1])
+            stores = mode != READ and line.objects[named][0] == 1
+            line.values[v].append((named, mode, rnd.randrange(first, values + 1) if stores else 0))
+    for n in descriptors:
+        line.held[n] = rnd.randrange(first, values + 1)
+    return line
+
+
+def little(**size):
+    """As mixed, but only one driver, one device and the data are active, and the device's descriptors are cleared."""
+    line = mixed(**size)
+    line.asleep = {(1, n) for n in range(2, line.drivers + 1)} | {(2, n) for n in range(2, line.devices + 1)}
+    for n in line.own(1):
+        line.held[n] = 0
+    return line
+
+
+def without_device(**size):
+    """As mixed, but the last device is inactive, with what it owns."""
+    line = mixed(**size)
+    line.asleep = {(2, line.devices)}
+    return line
+
+
+def described(line, device):
+    """What the device may write with the values of the moment: the value that is put into each object, 0 into data."""
+    held = {**line.held, **{n: line.hardcoded[o[2]] for n, o in line.objects.items() if o[0] == 4}}
+    waiting, seen, writes = [line.hardcoded[device]], set(), {}
+    while waiting:
+        value = waiting.pop()
+        if value in seen:
+            continue
+        seen.add(value)
+        for named, mode, put in line.values.get(value, []):
+            if mode & WRITE:
+                writes[named] = put
+            if mode & READ and line.objects[named][0] in (1, 4):
+                waiting.append(held[named])
+    return writes
+
+
+def links(order, entries, devices=16, objects=96, values=47):
+    """A chain through all values but one: each stores the next one into the next descriptor and reads it, and the
+    last names an object of another partition. The one is hard-wired and reads the first descriptor, which is cleared.
+    What is written there decides how long the chain is: `line.start[n]` makes it one of n values. By `order` the
+    numbers of descriptors and values rise or fall along the chain, or are shuffled; a value's other entries read data
+    of the partition."""
+    line = Line(devices, devices, objects, values)
+    data, outside = objects - 1, objects
+    line.objects[data] = line.objects[outside] = (3, 0, 0)
+    line.elsewhere.add(outside)
+    descriptors = [n for n, o in line.objects.items() if o[0] == 1]
+    numbers = list(range(1, values + 1))
+    for row in (descriptors, numbers):
+        if order == "falling":
+            row.reverse()
+        elif order == "shuffled":
+            random.Random(1).shuffle(row)
+    wired, *chain = numbers
+    line.first = descriptors[0]
+    owner = line.objects[line.first][2]
+    line.hardcoded[owner] = wired
+    line.values[wired] = [(line.first, READ, 0)] * entries
+    for place, value in enumerate(chain[:-1], 1):
+        link = (descriptors[place], BOTH, chain[place])
+        line.values[value] = [(data, READ, 0)] * (entries - 1) + [link]
+    line.values[chain[-1]] = [(data, READ, 0)] * (entries - 1) + [(outside, READ, 0)]
+    line.start = {len(chain) - place: value for place, value in enumerate(chain)}
+    return line
