@@ -2,7 +2,7 @@
 #
 #   make                      prove and build target/staticlib/libgate.a (some minutes; needs the Rattle toolchain, rt)
 #   make install PREFIX=/usr  copy it to PREFIX (/usr/local if none is given), below DESTDIR if that is given
-#   make check                lint, and try the library from C and Rust, in seconds; bash .ci/run proves all anew
+#   make check                lint, try the library from C and Rust, and count it; bash .ci/run proves all anew
 #   make bench                the tables of docs/PERFORMANCE.md, by callgrind
 #   make clean                remove what this file makes, and nothing that rt keeps
 PREFIX ?= /usr/local
@@ -72,6 +72,7 @@ check: $(library)
 	bash tests/install.sh
 	bash tests/storing.sh
 	python3 bench/stack.py
+	python3 tests/ratios.py
 	bash tests/bindings.sh
 	bash tests/questions.sh
 	python3 tests/manuals.py
