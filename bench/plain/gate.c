@@ -50,7 +50,7 @@ static void carry_out_read(uint8_t *state, const struct operation *operation, ui
 static inline void move(const struct line *line, uint8_t *state, uint32_t object, uint32_t partition) {
     uint8_t *record = state + record_at(object);
     *record = (uint8_t)partition;
-    if (partition && kind_of(line, object) != HARDWIRED) {
+    if (partition && line->kind[object] != HARDWIRED) {
         memset(record + 1, 0, CONTENT);
     }
 }
@@ -58,8 +58,7 @@ static inline void move(const struct line *line, uint8_t *state, uint32_t object
 static void move_owner(const struct line *line, uint8_t *state, uint32_t class, uint32_t owner, uint32_t partition) {
     state[owner_at(class, owner)] = (uint8_t)partition;
     for (uint32_t object = 1; object <= line->objects; object++) {
-        const uint8_t *owned = declared(line, object) + 1;
-        if (owned[0] == class && owned[1] == owner) {
+        if (line->class[object] == class && line->owner[object] == owner) {
             move(line, state, object, partition);
         }
     }

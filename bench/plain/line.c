@@ -1,6 +1,11 @@
-// Questions 1 to 6. A file that is accepted has numbers of one byte only, so the file is first tried byte by byte; only
-// if that fails, it is read again number by number to find out which question is answered with no.
+// Questions 1 to 6. The file is read once, into columns, whatever the length of its numbers. Nearly all have one byte,
+// so that the three of an object, or of an entry, are tried together, as bytes of one word; where that fails they are
+// read one by one, and the reading goes on behind them.
 #include "parts.h"
+
+_Static_assert(MOST_DRIVERS < 32 && MOST_CARDS < 32, "owner numbers are bits of a word");
+_Static_assert(MOST_OBJECTS < 256, "object numbers are bytes of a column");
+_Static_assert(MOST_VALUES < 64, "value numbers are bits of a word");
 
 enum reading read_long(const uint8_t **at, const uint8_t *end, uint32_t *number) {
     const uint8_t *last = *at;
@@ -22,140 +27,184 @@ enum reading read_long(const uint8_t **at, const uint8_t *end, uint32_t *number)
     return *number > 65535 ? BAD : GOT;
 }
 
-// The careful way: a number of the file and the first question that is answered with no.
-struct careful {
-    const uint8_t *at, *end;
+// A file's end, and the first question of 1 to 3 that is answered with no.
+struct file {
+    const uint8_t *end;
     uint32_t refusal;
 };
 
-static uint32_t field(struct careful *file, uint32_t low, uint32_t high) {
-    uint32_t number = 0;
-    if (file->refusal) {
-        return 0;
-    }
-    switch (read_long(&file->at, file->end, &number)) {
+// Stores the number at `at`, of whatever length. The place behind it, or NULL if a question is answered with no.
+static const uint8_t *long_field(const uint8_t *at, struct file *file, uint32_t low, uint32_t high, uint8_t *to) {
+    uint32_t number;
+    switch (read_long(&at, file->end, &number)) {
     case CUT:
         file->refusal = 1;
-        return 0;
+        return NULL;
     case BAD:
         file->refusal = 2;
-        return 0;
+        return NULL;
     default:
-        file->refusal = number < low || number > high ? 3 : 0;
-        return file->refusal ? 0 : number;
-    }
-}
-
-static void careful_objects(struct careful *file, uint32_t objects, const uint32_t *owners, uint8_t *kinds) {
-    for (uint32_t object = 1; object <= objects && !file->refusal; object++) {
-        kinds[object] = (uint8_t)field(file, 1, 4);
-        uint32_t class = field(file, EXTERNAL, BY_CARD);
-        field(file, class != EXTERNAL, owners[class]);
-    }
-}
-
-static void careful_values(struct careful *file, uint32_t objects, uint32_t values, const uint8_t *kinds) {
-    for (uint32_t value = 1; value <= values && !file->refusal; value++) {
-        uint32_t count = field(file, 0, MOST_ENTRIES);
-        for (uint32_t i = 0; i < count && !file->refusal; i++) {
-            uint32_t object = field(file, 1, objects), mode = field(file, 1, 3);
-            field(file, 0, kinds[object] == TRANSFER && (mode & WRITE) ? values : 0);
+        if (number < low || number > high) {
+            file->refusal = 3;
+            return NULL;
         }
+        *to = (uint8_t)number;
+        return at;
     }
 }
 
-// Questions 1 to 4 for a file that one of them refuses.
-static uint32_t refusal(const uint8_t *bytes, size_t length) {
-    struct careful file = {bytes, bytes + length, 0};
-    uint8_t kinds[MOST_OBJECTS + 1] = {0};
-    field(&file, 1, 1);
-    uint32_t drivers = field(&file, 0, MOST_DRIVERS), cards = field(&file, 0, MOST_CARDS);
-    uint32_t objects = field(&file, 0, MOST_OBJECTS), values = field(&file, 0, MOST_VALUES);
-    uint32_t owners[] = {0, drivers, cards};
-    careful_objects(&file, objects, owners, kinds);
-    for (uint32_t card = 1; card <= cards && !file.refusal; card++) {
-        field(&file, 0, values);
+// The same for a number that has nearly always one byte; NULL stays NULL.
+static inline const uint8_t *field(const uint8_t *at, struct file *file, uint32_t low, uint32_t high, uint8_t *to) {
+    if (at && at < file->end && *at < 128 && *at >= low && *at <= high) {
+        *to = *at;
+        return at + 1;
     }
-    careful_values(&file, objects, values, kinds);
-    return file.refusal ? file.refusal : 4;
+    return at ? long_field(at, file, low, high, to) : NULL;
 }
 
-// The objects, from `at` on, and question 5 of those of kind 4: `*paired` is put to false where it is answered with no.
-static bool try_objects(struct line *line, const uint8_t *at, bool *paired) {
-    const uint8_t owners[] = {1, line->drivers, line->cards};
-    uint32_t owned = 0;
-    bool fit = true;
-    for (uint32_t object = 1; object <= line->objects; object++, at += 3) {
-        uint32_t kind = at[0], class = at[1], owner = at[2];
-        if (kind - 1 > 3 || class > BY_CARD || owner - (class != EXTERNAL) >= owners[class]) {
-            return false;
+static const uint8_t *read_counts(struct line *line, const uint8_t *at, struct file *file) {
+    uint8_t edition;
+    at = field(at, file, 1, 1, &edition);
+    at = field(at, file, 0, MOST_DRIVERS, &line->drivers);
+    at = field(at, file, 0, MOST_CARDS, &line->cards);
+    at = field(at, file, 0, MOST_OBJECTS, &line->objects);
+    return field(at, file, 0, MOST_VALUES, &line->values);
+}
+
+// Reads an object number by number. If the file is then too short for the objects behind it, it is refused, by the
+// first number that fails.
+static __attribute__((noinline)) const uint8_t *long_object(struct line *line, const uint8_t *at, struct file *file,
+                                                            uint32_t object) {
+    const uint8_t owners[] = {0, line->drivers, line->cards};
+    do {
+        uint8_t *class = &line->class[object];
+        at = field(at, file, TRANSFER, HARDWIRED, &line->kind[object]);
+        at = field(at, file, EXTERNAL, BY_CARD, class);
+        at = at ? field(at, file, *class != EXTERNAL, owners[*class], &line->owner[object]) : NULL;
+        object++;
+    } while (at && file->end - at < 3 * (line->objects - object + 1));
+    return at;
+}
+
+// The objects, and the answer to question 5. A word begins a byte before the three numbers, here and with the entries,
+// so that it does not go beyond the file.
+static const uint8_t *read_objects(struct line *line, const uint8_t *at, struct file *file, bool *paired) {
+    // The owner numbers of each class, as bits. There is no class 3.
+    const uint32_t owners[] = {1, (2u << line->drivers) - 2, (2u << line->cards) - 2, 0};
+    const uint32_t objects = line->objects;
+    uint32_t owned = 0, twice = 0;
+    if (file->end - at < 3 * objects) {
+        return long_object(line, at, file, 1);
+    }
+    for (uint32_t object = 1; object <= objects; object++) {
+        uint32_t word = half_word_at(at - 1);
+        // A kind from 1 to 4, a class below 4, an owner below 32.
+        if (!((word - 0x100) & 0xe0fcfc00) && owners[word >> 16 & 3] >> (word >> 24) & 1) {
+            line->kind[object] = (uint8_t)(word >> 8);
+            line->class[object] = (uint8_t)(word >> 16);
+            line->owner[object] = (uint8_t)(word >> 24);
+            at += 3;
+        } else {
+            at = long_object(line, at, file, object);
+            if (!at) {
+                return NULL;
+            }
         }
-        if (kind == HARDWIRED) {
-            fit = fit && class == BY_CARD && !(owned >> owner & 1);
+        if (line->kind[object] == HARDWIRED) {
+            uint32_t owner = line->class[object] == BY_CARD ? line->owner[object] : 0;
+            twice |= owned & 1u << owner;
             owned |= 1u << owner;
             line->descriptor[owner] = (uint8_t)object;
         }
     }
-    *paired = fit && owned == (2u << line->cards) - 2;
-    return true;
+    *paired = owned == owners[BY_CARD] && !twice;
+    return at;
 }
 
-// The values, from `at` to the file's end.
-static bool try_values(struct line *line, const uint8_t *at, const uint8_t *end) {
-    static const uint8_t NO_ENTRIES = 0;
-    uint32_t objects = line->objects, values = line->count;
-    line->values[0] = &NO_ENTRIES;
+static const uint8_t *read_hardwired(struct line *line, const uint8_t *at, struct file *file) {
+    const uint32_t cards = line->cards, values = line->values;
+    for (uint32_t card = 1; at && card <= cards; card++) {
+        at = field(at, file, 0, values, &line->hardwired[card]);
+    }
+    return at;
+}
+
+static inline bool may_put(const struct line *line, uint32_t object, uint32_t mode) {
+    return (mode & WRITE) && line->kind[object] == TRANSFER;
+}
+
+// As with an object: reads one number by number, and refuses if the rest up to `stop` is too short.
+static __attribute__((noinline)) const uint8_t *
+long_entry(const struct line *line, const uint8_t *at, struct file *file, struct entry *to, const struct entry *stop) {
+    do {
+        at = field(at, file, 1, line->objects, &to->object);
+        at = field(at, file, READ, BOTH, &to->mode);
+        at = at ? field(at, file, 0, may_put(line, to->object, to->mode) ? line->values : 0, &to->put) : NULL;
+        to++;
+    } while (at && file->end - at < 3 * (stop - to));
+    return at;
+}
+
+// The least numbers of an entry, each in its byte of a word.
+enum { LEAST = 0x100 | READ << 16 };
+
+// How far an entry's numbers of one byte may be above the least, each in its byte. For a line without objects that is
+// 255 for the object, which nothing passes.
+static inline uint32_t entry_span(const struct line *line) {
+    uint32_t objects = line->objects < 128 ? line->objects : 127;
+    return 0xff | ((objects - 1) & 0xff) << 8 | (BOTH - READ) << 16 | (uint32_t)line->values << 24;
+}
+
+// Whether the numbers are in range. One that is too small makes the first difference negative in its byte, one that is
+// too large the second, and so sets the byte's highest bit; what it borrows from the bytes above is then of no matter.
+static inline bool in_range(uint32_t word, uint32_t span) {
+    uint32_t above = word - LEAST;
+    return !((above | (span - above)) & 0x80808000);
+}
+
+static inline const uint8_t *read_entries(const struct line *line, const uint8_t *at, struct file *file,
+                                          struct entry *to, uint32_t count, uint32_t span) {
+    const struct entry *stop = to + count;
+    if (file->end - at < 3 * count) {
+        return long_entry(line, at, file, to, stop);
+    }
+    for (; to < stop; to++) {
+        uint32_t word = half_word_at(at - 1);
+        if (in_range(word, span) && (word < 1u << 24 || may_put(line, word >> 8 & 0xff, word >> 16))) {
+            memcpy(to, &word, sizeof word);
+            at += 3;
+        } else {
+            at = long_entry(line, at, file, to, stop);
+            if (!at) {
+                return NULL;
+            }
+        }
+    }
+    return at;
+}
+
+static const uint8_t *read_values(struct line *line, const uint8_t *at, struct file *file) {
+    const uint32_t values = line->values, span = entry_span(line);
+    line->count[0] = 0;
     for (uint32_t value = 1; value <= values; value++) {
-        if (at == end || *at > MOST_ENTRIES || end - at <= 3 * *at) {
-            return false;
-        }
-        line->values[value] = at;
-        const uint8_t *next = at + 1 + 3 * *at;
-        for (at++; at < next; at += 3) {
-            uint32_t object = at[0], mode = at[1], put = at[2];
-            if (object - 1 >= objects || mode - 1 > 2) {
-                return false;
-            }
-            if (put && (put > values || !(mode & WRITE) || kind_of(line, object) != TRANSFER)) {
-                return false;
-            }
+        at = field(at, file, 0, MOST_ENTRIES, &line->count[value]);
+        at = at ? read_entries(line, at, file, line->entries[value], line->count[value], span) : NULL;
+        if (!at) {
+            return NULL;
         }
     }
-    return at == end;
-}
-
-// Whether the file meets questions 1 to 4; `*paired` is question 5.
-static bool try_file(struct line *line, const uint8_t *bytes, size_t length, bool *paired) {
-    if (length < 5 || bytes[0] != 1 || bytes[1] > MOST_DRIVERS || bytes[2] > MOST_CARDS || bytes[3] > MOST_OBJECTS ||
-        bytes[4] > MOST_VALUES) {
-        return false;
-    }
-    line->bytes = bytes;
-    line->drivers = bytes[1];
-    line->cards = bytes[2];
-    line->objects = bytes[3];
-    line->count = bytes[4];
-    size_t values_at = 5 + 3u * line->objects + line->cards;
-    if (length < values_at || !try_objects(line, bytes + 5, paired)) {
-        return false;
-    }
-    line->hardwired = bytes + 4 + 3 * line->objects;
-    for (uint32_t card = 1; card <= line->cards; card++) {
-        if (line->hardwired[card] > line->count) {
-            return false;
-        }
-    }
-    return try_values(line, bytes + values_at, bytes + length);
+    return at;
 }
 
 // Question 6.
 static bool restrained(const struct line *line) {
     for (uint32_t card = 1; card <= line->cards; card++) {
-        const uint8_t *entry = line->values[line->hardwired[card]], *end = entry + 1 + 3 * *entry;
-        for (entry++; entry < end; entry += 3) {
-            const uint8_t *object = declared(line, entry[0]);
-            if (object[1] != BY_CARD || object[2] != card || object[0] == HARDWIRED ||
-                (object[0] == TRANSFER && entry[1] != READ)) {
+        uint32_t value = line->hardwired[card];
+        const struct entry *entry = line->entries[value], *end = entry + line->count[value];
+        for (; entry < end; entry++) {
+            uint32_t object = entry->object, kind = line->kind[object];
+            if (line->class[object] != BY_CARD || line->owner[object] != card || kind == HARDWIRED ||
+                (kind == TRANSFER && entry->mode != READ)) {
                 return false;
             }
         }
@@ -164,9 +213,15 @@ static bool restrained(const struct line *line) {
 }
 
 uint32_t load(struct line *line, const uint8_t *bytes, size_t length) {
-    bool paired;
-    if (!try_file(line, bytes, length, &paired)) {
-        return refusal(bytes, length);
+    // Where there is no file, there is no number either.
+    struct file file = {bytes + length, 1};
+    bool paired = false;
+    const uint8_t *at = read_counts(line, bytes, &file);
+    at = at ? read_objects(line, at, &file, &paired) : NULL;
+    at = at ? read_hardwired(line, at, &file) : NULL;
+    at = at ? read_values(line, at, &file) : NULL;
+    if (!at) {
+        return file.refusal;
     }
-    return !paired ? 5 : !restrained(line) ? 6 : 0;
+    return at != file.end ? 4 : !paired ? 5 : !restrained(line) ? 6 : 0;
 }

@@ -14,7 +14,7 @@ enum { STATE_BYTES = RECORDS_AT + RECORD * MOST_OBJECTS };
 
 enum kind { TRANSFER = 1, FUNCTION = 2, DATA = 3, HARDWIRED = 4 };
 enum class { EXTERNAL = 0, BY_DRIVER = 1, BY_CARD = 2 };
-enum mode { READ = 1, WRITE = 2 };
+enum mode { READ = 1, WRITE = 2, BOTH = 3 };
 enum standing { NEVER_USED = 0, EXISTING = 1, DESTROYED = 2 };
 
 enum code {
@@ -32,24 +32,22 @@ enum code {
     OBJECTS_OUT
 };
 
-// A line file that meets questions 1 to 6. All of its numbers are then below 128 and have one byte each, so that it is
-// used where it stands; kept are places in it.
-struct line {
-    const uint8_t *bytes;
-    const uint8_t *hardwired;               // the cards' value numbers; that of card 1 is at place 1
-    const uint8_t *values[MOST_VALUES + 1]; // the entry count of each value, then its entries
-    uint8_t drivers, cards, objects, count; // count: how many values
-    uint8_t descriptor[MOST_CARDS + 1];     // each card's object of kind 4
+// An entry of a value. It is stored as a word, and its first byte is none of it.
+struct entry {
+    uint8_t before, object, mode, put;
 };
 
-// An object's three numbers in the file.
-static inline const uint8_t *declared(const struct line *line, uint32_t object) {
-    return line->bytes + 2 + 3 * object;
-}
-
-static inline uint8_t kind_of(const struct line *line, uint32_t object) {
-    return *declared(line, object);
-}
+// A line file that meets questions 1 to 6, in columns: the numbers of a file have one byte, two or three, and a column
+// is the same for all. What has the number n is at place n; at 0 there is nothing, but for value 0, which has no
+// entries.
+struct line {
+    uint8_t drivers, cards, objects, values;
+    uint8_t kind[MOST_OBJECTS + 1], class[MOST_OBJECTS + 1], owner[MOST_OBJECTS + 1];
+    uint8_t hardwired[MOST_CARDS + 1];  // the cards' value numbers
+    uint8_t descriptor[MOST_CARDS + 1]; // each card's object of kind 4
+    uint8_t count[MOST_VALUES + 1];
+    struct entry entries[MOST_VALUES + 1][MOST_ENTRIES];
+};
 
 // An object's record in the state: its partition, then its contents.
 static inline size_t record_at(uint32_t object) {
@@ -66,6 +64,15 @@ static inline uint64_t word_at(const uint8_t *bytes) {
     memcpy(&word, bytes, sizeof word);
     return word;
 }
+
+static inline uint32_t half_word_at(const uint8_t *bytes) {
+    uint32_t word;
+    memcpy(&word, bytes, sizeof word);
+    return word;
+}
+
+// Numbers of objects as bits of words.
+enum { OBJECT_WORDS = MOST_OBJECTS / 64 + 1 };
 
 // A record taken apart; what its code does not have is not set.
 struct operation {

@@ -56,19 +56,20 @@ __attribute__((always_inline)) static inline bool group_passes(struct search *se
     const uint32_t self = 1u << group;
     uint64_t done = search->done[group], waiting = search->waiting[group] & ~done;
     while (waiting) {
-        const uint8_t *entry = line->values[__builtin_ctzll(waiting)], *end = entry + 1 + 3 * *entry;
+        uint32_t value = (uint32_t)__builtin_ctzll(waiting);
+        const struct entry *entry = line->entries[value], *end = entry + line->count[value];
         done |= waiting & -waiting;
-        for (entry++; entry < end; entry += 3) {
-            uint32_t object = entry[0], mode = entry[1], kind = kind_of(line, object);
+        for (; entry < end; entry++) {
+            uint32_t object = entry->object, mode = entry->mode, kind = line->kind[object];
             if (stops(search, group, object, kind, outside)) {
                 return false;
             }
             if ((mode & WRITE) && kind == TRANSFER) {
-                uint64_t value = (uint64_t)1 << entry[2];
-                search->put[object] |= value;
-                waiting |= search->readers[object] & self ? value : 0;
+                uint64_t put = (uint64_t)1 << entry->put;
+                search->put[object] |= put;
+                waiting |= search->readers[object] & self ? put : 0;
                 if (search->readers[object] & ~self) {
-                    tell_readers(search, search->readers[object] & ~self, value);
+                    tell_readers(search, search->readers[object] & ~self, put);
                 }
             }
             if ((mode & READ) && is_descriptor(kind) && !(search->readers[object] & self)) {
@@ -135,7 +136,7 @@ bool stays_inside(const struct line *line, uint8_t *state, const struct operatio
     bool write = operation->code == DRIVER_WRITE;
     uint32_t places = 0, at[MOST_ITEMS];
     for (uint32_t i = 0; i < operation->count; i++) {
-        if (into[i] && kind_of(line, into[i]) == TRANSFER) {
+        if (into[i] && line->kind[into[i]] == TRANSFER) {
             at[places] = (uint32_t)record_at(into[i]) + 1;
             before[places] = state[at[places]];
             after[places++] = write ? (uint8_t)operation->value[i] : state[record_at(operation->object[i]) + 1];
@@ -163,8 +164,7 @@ static void note_concerned(struct search *search, const struct operation *operat
     }
     uint32_t class = operation->code == DRIVER_OUT ? BY_DRIVER : BY_CARD;
     for (uint32_t object = 1; object <= line->objects; object++) {
-        const uint8_t *owner = declared(line, object) + 1;
-        if (owner[0] == class && owner[1] == operation->owner) {
+        if (line->class[object] == class && line->owner[object] == operation->owner) {
             search->concerned[object] = true;
         }
     }
@@ -185,23 +185,24 @@ bool may_leave(const struct line *line, const uint8_t *state, const struct opera
 
 // What a card's entries describe now: objects to read, and for each object the put values of entries that write it.
 struct today {
-    uint64_t reads[2], writes[MOST_OBJECTS + 1];
+    uint64_t reads[OBJECT_WORDS], writes[MOST_OBJECTS + 1];
 };
 
 static void describe(const struct line *line, const uint8_t *state, uint32_t card, struct today *today) {
     uint64_t seen = 0, waiting = (uint64_t)1 << line->hardwired[card];
     memset(today, 0, sizeof *today);
     while (waiting) {
-        const uint8_t *entry = line->values[__builtin_ctzll(waiting)], *end = entry + 1 + 3 * *entry;
+        uint32_t value = (uint32_t)__builtin_ctzll(waiting);
+        const struct entry *entry = line->entries[value], *end = entry + line->count[value];
         seen |= waiting & -waiting;
-        for (entry++; entry < end; entry += 3) {
-            uint32_t object = entry[0];
-            if (entry[1] & READ) {
+        for (; entry < end; entry++) {
+            uint32_t object = entry->object;
+            if (entry->mode & READ) {
                 today->reads[object / 64] |= (uint64_t)1 << object % 64;
-                waiting |= is_descriptor(kind_of(line, object)) ? held(state, object) : 0;
+                waiting |= is_descriptor(line->kind[object]) ? held(state, object) : 0;
             }
-            if (entry[1] & WRITE) {
-                today->writes[object] |= (uint64_t)1 << entry[2];
+            if (entry->mode & WRITE) {
+                today->writes[object] |= (uint64_t)1 << entry->put;
             }
         }
         waiting &= ~seen;
@@ -221,7 +222,7 @@ bool described(const struct line *line, const uint8_t *state, const struct opera
             if (!into) {
                 continue;
             }
-            value = kind_of(line, into) == TRANSFER ? state[record_at(object) + 1] : 0;
+            value = line->kind[into] == TRANSFER ? state[record_at(object) + 1] : 0;
         }
         if (!(today.writes[into] >> value & 1)) {
             return false;

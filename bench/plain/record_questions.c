@@ -33,7 +33,7 @@ static bool all_known(const struct line *line, const struct operation *operation
         return false;
     }
     for (uint32_t i = 0; has_list(operation) && i < operation->count; i++) {
-        if (operation->object[i] - 1 >= line->objects || (is_write(operation) && operation->value[i] > line->count) ||
+        if (operation->object[i] - 1 >= line->objects || (is_write(operation) && operation->value[i] > line->values) ||
             (is_read(operation) && operation->into[i] > line->objects)) {
             return false;
         }
@@ -44,7 +44,7 @@ static bool all_known(const struct line *line, const struct operation *operation
 // Question 12.
 static bool named_once(const struct operation *operation) {
     const uint32_t *named = is_read(operation) ? operation->into : operation->object;
-    uint64_t seen[2] = {0, 0};
+    uint64_t seen[OBJECT_WORDS] = {0};
     for (uint32_t i = 0; i < operation->count; i++) {
         uint64_t bit = (uint64_t)1 << named[i] % 64;
         if (named[i] && (seen[named[i] / 64] & bit)) {
@@ -58,7 +58,7 @@ static bool named_once(const struct operation *operation) {
 // Question 13.
 static bool kinds_fit(const struct line *line, const struct operation *operation) {
     for (uint32_t i = 0; i < operation->count; i++) {
-        uint32_t kind = kind_of(line, operation->object[i]);
+        uint32_t kind = line->kind[operation->object[i]];
         if (kind == HARDWIRED) {
             return false;
         }
@@ -67,11 +67,11 @@ static bool kinds_fit(const struct line *line, const struct operation *operation
                 return false;
             }
         } else if (is_read(operation)) {
-            uint32_t into = operation->into[i] ? kind_of(line, operation->into[i]) : kind;
+            uint32_t into = operation->into[i] ? line->kind[operation->into[i]] : kind;
             if (into == HARDWIRED || (into == TRANSFER) != (kind == TRANSFER)) {
                 return false;
             }
-        } else if (declared(line, operation->object[i])[1] != EXTERNAL) {
+        } else if (line->class[operation->object[i]] != EXTERNAL) {
             return false;
         }
     }

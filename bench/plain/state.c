@@ -38,16 +38,15 @@ bool well_formed(const struct line *line, const uint8_t *state) {
         return false;
     }
     const uint8_t *record = state + RECORDS_AT, *end = record + RECORD * line->objects;
-    const uint8_t *object = line->bytes + 5;
-    for (; record < end; record += RECORD, object += 3) {
-        if (object[1] != EXTERNAL ? record[0] != state[owner_at(object[1], object[2])]
-                                  : record[0] >= PARTITIONS || !(open >> record[0] & 1)) {
+    for (uint32_t object = 1; record < end; record += RECORD, object++) {
+        uint32_t kind = line->kind[object], class = line->class[object], owner = line->owner[object];
+        if (class != EXTERNAL ? record[0] != state[owner_at(class, owner)]
+                              : record[0] >= PARTITIONS || !(open >> record[0] & 1)) {
             return false;
         }
-        if (object[0] == TRANSFER || object[0] == HARDWIRED) {
+        if (kind == TRANSFER || kind == HARDWIRED) {
             uint64_t value = word_at(record + 1);
-            if ((object[0] == TRANSFER ? value > line->count : value != line->hardwired[object[2]]) ||
-                word_at(record + 9)) {
+            if ((kind == TRANSFER ? value > line->values : value != line->hardwired[owner]) || word_at(record + 9)) {
                 return false;
             }
         }
