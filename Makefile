@@ -3,7 +3,7 @@
 #   make                      prove and build target/staticlib/libgate.a (some minutes; needs the Rattle toolchain, rt)
 #   make install PREFIX=/usr  copy it to PREFIX (/usr/local if none is given), below DESTDIR if that is given
 #   make check                lint, try the library from C and Rust, and count it; bash .ci/run proves all anew
-#   make bench                the tables of docs/PERFORMANCE.md, by callgrind
+#   make bench                try the gate in plain C against the library, then the tables of docs/PERFORMANCE.md
 #   make clean                remove what this file makes, and nothing that rt keeps
 PREFIX ?= /usr/local
 given := $(PREFIX)
