@@ -2,7 +2,7 @@
 ghost use mathlib.Core.Path.{_≡_};
 ghost use Prim.Native.Nat.{ℕ, _≤_};
 ghost use mathlib.Core.List.{List};
-ghost use Rattle.model.specs.Config.{mostObjects, mostValues, mostEntries};
+ghost use Rattle.model.specs.Config.{mostObjects, mostValues, mostEntries, entryPlace};
 ghost use Rattle.model.specs.ConfigFile.{storedMost, entry, value, turns};
 ghost use Rattle.config.specs.Columns.{valuesOf, progress, Within};
 ghost use lib.Dec.{leb};
@@ -12,6 +12,7 @@ use crate::fields::reach;
 use crate::fields::read_field;
 use crate::groups::refused;
 use model::Counts;
+use model::ENTRY_BYTES;
 use model::ENTRY_SLOTS;
 use model::Field;
 use model::MOST_ENTRIES;
@@ -90,17 +91,20 @@ fn may_store(counts: Counts, kinds: &[u8; OBJECT_SLOTS], o: u8, mode: u8, w: u8)
     w <= stored_most(counts, kinds, o, mode)
 }
 
-// Entry j of value v: as most have it, in three bytes; else field by field, which finds what is refused.
+// Entry j of value v, for place e of the table: as most have it, in three bytes; else field by field, which finds what
+// is refused.
 fn read_entry(
     s: &[u8],
     counts: Counts,
     kinds: &[u8; OBJECT_SLOTS],
     v: u8,
     j: u8,
+    e: usize,
     at: usize,
     entries: &mut [u8; ENTRY_SLOTS],
 ) -> Reading
     requires { ⌜ (v ≤ mostValues) × (j ≤ mostEntries) ⌝ }
+    requires { ⌜ e ≡ entryPlace v j ⌝ }
     requires { ⌜ Within counts ⌝ }
     ensures { λ r.
         ⌜ ((count : List ℕ) → progress r (valuesOf count (now (entries .exit)))
@@ -112,7 +116,6 @@ fn read_entry(
         let w = s[at + 2];
         if names_object(counts, o, mode) {
             if may_store(counts, kinds, o, mode, w) {
-                let e = entry_place(v, j);
                 entries[e] = o;
                 entries[e + 1] = mode;
                 entries[e + 2] = w;
@@ -141,13 +144,15 @@ fn read_entries(
         (valuesOf count (now (entries .entry)))) ⌝ }
 {
     let mut i: u8 = 0;
+    let mut e = entry_place(v, 1);
     let mut p = at;
     while i < n {
         i += 1;
-        let r = read_entry(s, counts, kinds, v, i, p, entries);
+        let r = read_entry(s, counts, kinds, v, i, e, p, entries);
         let Reading::At(next) = r else {
             return r;
         };
+        e += ENTRY_BYTES;
         p = next;
     }
     Reading::At(p)

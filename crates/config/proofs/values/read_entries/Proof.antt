@@ -2,24 +2,30 @@
 -- now, are those from the start. Assumes nothing.
 use borrow.Author.Needs.{needs}
 use mathlib.Core.List.{List}
-use Prim.Native.Nat.{ℕ, _≤_, _-_}
+use Prim.Native.Nat.{ℕ, _≤_, _-_, _+_}
+use native.Mathlib.Omega.{arith}
 use mathlib.Core.Path.{_≡_, sym, _∙_}
 use Rattle.config.specs.Columns.{valuesOf}
+use Rattle.model.specs.Config.{entryPlace}
 use Rattle.model.specs.ConfigFile.{turns, entry}
 use Rattle.config.proofs.Laws
 use Rattle.config.proofs.values.read_entries.Statement.{statement}
 use Rattle.config.proofs.values.read_entries.Tie as tie
 
 abbrev Inv-loop : tie.InvT-loop
-Inv-loop s counts kinds v n at entries₀ i₀ p₀ entries i p =
-    (i ≤ n) × ((count : List ℕ) → turns (entry s counts kinds v) (n - i) i p (valuesOf count entries)
+Inv-loop s counts kinds v n at entries₀ i₀ e₀ p₀ entries i e p =
+    (i ≤ n) × (e ≡ entryPlace v (i + 1))
+    × ((count : List ℕ) → turns (entry s counts kinds v) (n - i) i p (valuesOf count entries)
     ≡ turns (entry s counts kinds v) n 0 at (valuesOf count entries₀))
 
 abbrev μ-loop : tie.MeasureT-loop
-μ-loop s counts kinds v n at entries₀ i₀ p₀ entries i p = n - i
+μ-loop s counts kinds v n at entries₀ i₀ e₀ p₀ entries i e p = n - i
+
+entry-place-requires : tie.Need-entry-place-requires Inv-loop μ-loop
+entry-place-requires c κs = search needs
 
 loop-holds : tie.Need-loop-holds Inv-loop μ-loop
-loop-holds c = (search needs, λ count. Laws.turns-start _ _ 0 _ _)
+loop-holds c = (search needs, c .entry-place .ensures, λ count. Laws.turns-start _ _ 0 _ _)
 
 add-i : tie.Need-add-i Inv-loop μ-loop
 add-i c = search needs
@@ -37,7 +43,10 @@ returns : tie.Need-returns Inv-loop μ-loop
 returns c =
     λ count. sym (Laws.turns-stop _ _ _ _ _ (c .before .before .before .before .loop-test .taken)
     (c .before .before .read-entry .ensures count) (c .enum-told .given .1))
-    ∙ c .before .before .before .before .before .loop .inv .1 count
+    ∙ c .before .before .before .before .before .loop .inv .2 count
+
+add-e : tie.Need-add-e Inv-loop μ-loop
+add-e c = search needs
 
 loop-less : tie.Need-loop-less Inv-loop μ-loop
 loop-less c = search needs
@@ -45,14 +54,15 @@ loop-less c = search needs
 loop-again : tie.Need-loop-again Inv-loop μ-loop
 loop-again c = (
   search needs,
+  omega arith,
   λ count. sym
       (Laws.turns-go _ _ _ _ _ (c .before .before .before .before .before .loop-test .taken)
       (c .before .before .before .read-entry .ensures count) (c .before .r .given .1))
-      ∙ c .before .before .before .before .before .before .loop .inv .1 count,
+      ∙ c .before .before .before .before .before .before .loop .inv .2 count,
 )
 
 returns-2 : tie.Need-returns-2 Inv-loop μ-loop
-returns-2 c = λ count. sym (Laws.turns-end _ _ _ _ _ (c .loop-test .left)) ∙ c .before .loop .inv .1 count
+returns-2 c = λ count. sym (Laws.turns-end _ _ _ _ _ (c .loop-test .left)) ∙ c .before .loop .inv .2 count
 
 pub read-entries-spec : {M : Type 1} → statement M
 read-entries-spec =
@@ -60,12 +70,14 @@ read-entries-spec =
     (tie.spec
     Inv-loop
     μ-loop
+    entry-place-requires
     loop-holds
     add-i
     read-entry-requires
     enum-known-r
     enum-told
     returns
+    add-e
     loop-less
     loop-again
     returns-2)

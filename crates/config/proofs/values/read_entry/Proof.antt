@@ -33,9 +33,6 @@ may-store-requires : tie.Need-may-store-requires
 may-store-requires c κs =
     Quick.object-few _ _ _ (sym (c .before .names-object .ensures) ∙ c .if2 .taken) (search needs)
 
-entry-place-requires : tie.Need-entry-place-requires
-entry-place-requires c κs = search needs
-
 element-write-entries : tie.Need-element-write-entries
 element-write-entries c = search needs
 
@@ -57,14 +54,15 @@ add-t23 c = search needs
 returns : tie.Need-returns
 unfolding read setEntry
 returns c =
-    λ count. rw (c .entry-place .ensures) (Quick.entry-quick _ _ _ _ _ _ _ _ _ _
+    λ count. rw (c .before .before .before .before .before .before .before .before .before .before .pre .1 .0)
+    (Quick.entry-quick _ _ _ _ _ _ _ _ _ _
     (omega (
       arith,
-      c .before .before .before .before .before .before .before .before .before .reach .ensures,
-      c .before .before .before .before .before .before .before .before .if1 .taken,
+      c .before .before .before .before .before .before .before .before .reach .ensures,
+      c .before .before .before .before .before .before .before .if1 .taken,
     )) refl refl refl
-    (sym (c .before .before .before .before .names-object .ensures) ∙ c .before .before .before .if2 .taken)
-    (sym (c .before .before .may-store .ensures) ∙ c .before .if3 .taken) (search needs))
+    (sym (c .before .before .before .names-object .ensures) ∙ c .before .before .if2 .taken)
+    (sym (c .before .may-store .ensures) ∙ c .if3 .taken) (search needs))
 
 entry-by-fields-requires : tie.Need-entry-by-fields-requires
 entry-by-fields-requires c κs = search needs
@@ -84,7 +82,6 @@ read-entry-spec =
     shared-slice-read-w
     names-object-requires
     may-store-requires
-    entry-place-requires
     element-write-entries
     add-entries
     element-write-entries-2
