@@ -105,10 +105,10 @@ fn accept(
     class: [u8; OBJECT_SLOTS],
     owner: [u8; OBJECT_SLOTS],
     hardcoded: [u8; DEVICE_SLOTS],
-    count: [u8; VALUE_SLOTS],
-    entries: [u8; ENTRY_SLOTS],
+    values: Values,
 ) -> Loaded
-    ensures { λ r. ⌜ r ≡ accepted (configOf counts kind class owner hardcoded count entries) ⌝ }
+    ensures { λ r.
+        ⌜ r ≡ accepted (configOf counts kind class owner hardcoded (values .count) (values .entries)) ⌝ }
 {
     let objects = Objects {
         kind: kind,
@@ -117,10 +117,6 @@ fn accept(
     };
     let devices = Devices {
         hardcoded: hardcoded,
-    };
-    let values = Values {
-        count: count,
-        entries: entries,
     };
     Loaded {
         answer: 0,
@@ -155,8 +151,11 @@ pub fn load(file: &[u8]) -> Loaded
         return refuse(fields::reading_question(q));
     };
     let mut count = [0u8; VALUE_SLOTS];
-    let mut entries = [0u8; ENTRY_SLOTS];
-    let r = values::read_values(file, counts, &kind, b, &mut count, &mut entries);
+    let mut table = Values {
+        count: count,
+        entries: [0u8; ENTRY_SLOTS],
+    };
+    let r = values::read_values(file, counts, &kind, b, &mut count, &mut table.entries);
     let Reading::At(end) = r else {
         return refuse(fields::reading_question(r));
     };
@@ -169,10 +168,11 @@ pub fn load(file: &[u8]) -> Loaded
         &owner,
         &hardcoded,
         &count,
-        &entries,
+        &table.entries,
     );
     if no != 0 {
         return refuse(no);
     }
-    accept(counts, kind, class, owner, hardcoded, count, entries)
+    table.count = count;
+    accept(counts, kind, class, owner, hardcoded, table)
 }

@@ -28,8 +28,8 @@ returns c =
 
 read-objects-requires : tie.Need-read-objects-requires
 read-objects-requires c κs =
-    Laws.counts-within _ (c .before .before .before .before .before .before .read-counts .ensures) (c .before
-    .before .before .before .head .given .1)
+    Laws.counts-within _ (c .before .before .before .before .before .before .read-counts .ensures)
+    (c .before .before .before .before .head .given .1)
 
 enum-known-p : tie.Need-enum-known-p
 enum-known-p c = search needs
@@ -47,17 +47,16 @@ returns-2 : tie.Need-returns-2
 unfolding groupsFrom objectsAt devicesAt valuesAt
 returns-2 c =
     Laws.load-go _ (c .before .before .before .before .before .before .before .before .before .before .before
-    .read-counts .ensures) (c .before .before .before .before .before .before .before .before .before .head .given
-    .1)
-    (Laws.group-stop _ _ (c .before .before .before .before .read-objects .ensures) (c .before .before .enum-told2
-    .given .1)
-    (rw (← c .before .reading-question .ensures) (c .refuse2 .ensures)))
+    .read-counts .ensures)
+    (c .before .before .before .before .before .before .before .before .before .head .given .1)
+    (Laws.group-stop _ _ (c .before .before .before .before .read-objects .ensures)
+    (c .before .before .enum-told2 .given .1) (rw (← c .before .reading-question .ensures) (c .refuse2 .ensures)))
 
 read-devices-requires : tie.Need-read-devices-requires
 read-devices-requires c κs =
     Laws.counts-within _ (c .before .before .before .before .before .before .before .before .before .before
-    .before .read-counts .ensures) (c .before .before .before .before .before .before .before .before .before
-    .head .given .1)
+    .before .read-counts .ensures)
+    (c .before .before .before .before .before .before .before .before .before .head .given .1)
 
 enum-known-q : tie.Need-enum-known-q
 enum-known-q c = search needs
@@ -75,20 +74,22 @@ returns-3 : tie.Need-returns-3
 unfolding groupsFrom objectsAt devicesAt valuesAt
 returns-3 c =
     Laws.load-go _ (c .before .before .before .before .before .before .before .before .before .before .before
-    .before .before .before .before .before .read-counts .ensures) (c .before .before .before .before .before
-    .before .before .before .before .before .before .before .before .before .head .given .1)
+    .before .before .before .before .before .read-counts .ensures)
+    (c .before .before .before .before .before .before .before .before .before .before .before .before .before
+    .before .head .given .1)
     (Laws.group-go _ _ (c .before .before .before .before .before .before .before .before .before .read-objects
-    .ensures) (c .before .before .before .before .before .before .before .p .given .1)
-    (Laws.group-stop _ _ (c .before .before .before .before .read-devices .ensures) (c .before .before .enum-told3
-    .given .1)
-    (rw (← c .before .reading-question2 .ensures) (c .refuse3 .ensures))))
+    .ensures)
+    (c .before .before .before .before .before .before .before .p .given .1)
+    (Laws.group-stop _ _ (c .before .before .before .before .read-devices .ensures)
+    (c .before .before .enum-told3 .given .1) (rw (← c .before .reading-question2 .ensures) (c .refuse3
+    .ensures))))
 
 read-values-requires : tie.Need-read-values-requires
 read-values-requires c κs =
     Laws.counts-within _ (c .before .before .before .before .before .before .before .before .before .before
-    .before .before .before .before .before .before .before .before .read-counts .ensures) (c .before .before
-    .before .before .before .before .before .before .before .before .before .before .before .before .before
-    .before .head .given .1)
+    .before .before .before .before .before .before .before .before .read-counts .ensures)
+    (c .before .before .before .before .before .before .before .before .before .before .before .before .before
+    .before .before .before .head .given .1)
 
 enum-known-r : tie.Need-enum-known-r
 enum-known-r c = search needs
@@ -107,25 +108,28 @@ unfolding groupsFrom objectsAt devicesAt valuesAt
 returns-4 c =
     Laws.load-go _ (c .before .before .before .before .before .before .before .before .before .before .before
     .before .before .before .before .before .before .before .before .before .before .before .before .read-counts
-    .ensures) (c .before .before .before .before .before .before .before .before .before .before .before .before
-    .before .before .before .before .before .before .before .before .before .head .given .1)
+    .ensures)
+    (c .before .before .before .before .before .before .before .before .before .before .before .before .before
+    .before .before .before .before .before .before .before .before .head .given .1)
     (Laws.group-go _ _ (c .before .before .before .before .before .before .before .before .before .before .before
-    .before .before .before .before .before .read-objects .ensures) (c .before .before .before .before .before
-    .before .before .before .before .before .before .before .before .before .p .given .1)
+    .before .before .before .before .before .read-objects .ensures)
+    (c .before .before .before .before .before .before .before .before .before .before .before .before .before
+    .before .p .given .1)
     (Laws.group-go _ _ (c .before .before .before .before .before .before .before .before .before .before .before
-    .read-devices .ensures) (c .before .before .before .before .before .before .before .before .before .q .given
-    .1)
-    (Laws.group-stop _ _ (c .before .before .before .before .read-values .ensures) (c .before .before .enum-told4
-    .given .1)
-    (rw (← c .before .reading-question3 .ensures) (c .refuse4 .ensures)))))
+    .read-devices .ensures)
+    (c .before .before .before .before .before .before .before .before .before .q .given .1)
+    (Laws.group-stop _ _ (c .before .before .before .before .read-values .ensures)
+    (c .before .before .enum-told4 .given .1) (rw (← c .before .reading-question3 .ensures) (c .refuse4
+    .ensures)))))
 
 judge-requires : tie.Need-judge-requires
 judge-requires c κs =
     Laws.counts-within _ (c .before .before .before .before .before .before .before .before .before .before
     .before .before .before .before .before .before .before .before .before .before .before .before .before
-    .before .before .before .before .before .read-counts .ensures) (c .before .before .before .before .before
+    .before .before .before .before .before .before .read-counts .ensures)
+    (c .before .before .before .before .before .before .before .before .before .before .before .before .before
     .before .before .before .before .before .before .before .before .before .before .before .before .before
-    .before .before .before .before .before .before .before .before .head .given .1)
+    .before .head .given .1)
 
 refuse-requires-5 : tie.Need-refuse-requires-5
 refuse-requires-5 c κs = search needs
@@ -135,21 +139,22 @@ unfolding groupsFrom objectsAt devicesAt valuesAt
 returns-5 c =
     Laws.load-go _ (c .before .before .before .before .before .before .before .before .before .before .before
     .before .before .before .before .before .before .before .before .before .before .before .before .before
-    .before .before .before .before .before .before .before .read-counts .ensures) (c .before .before .before
+    .before .before .before .before .before .before .before .before .read-counts .ensures)
+    (c .before .before .before .before .before .before .before .before .before .before .before .before .before
     .before .before .before .before .before .before .before .before .before .before .before .before .before
-    .before .before .before .before .before .before .before .before .before .before .before .before .before .head
-    .given .1)
+    .before .before .before .before .head .given .1)
     (Laws.group-go _ _ (c .before .before .before .before .before .before .before .before .before .before .before
     .before .before .before .before .before .before .before .before .before .before .before .before .before
-    .read-objects .ensures) (c .before .before .before .before .before .before .before .before .before .before
-    .before .before .before .before .before .before .before .before .before .before .before .before .p .given .1)
+    .before .read-objects .ensures)
+    (c .before .before .before .before .before .before .before .before .before .before .before .before .before
+    .before .before .before .before .before .before .before .before .before .before .p .given .1)
     (Laws.group-go _ _ (c .before .before .before .before .before .before .before .before .before .before .before
-    .before .before .before .before .before .before .before .before .read-devices .ensures) (c .before .before
-    .before .before .before .before .before .before .before .before .before .before .before .before .before
-    .before .before .q .given .1)
+    .before .before .before .before .before .before .before .before .before .read-devices .ensures)
+    (c .before .before .before .before .before .before .before .before .before .before .before .before .before
+    .before .before .before .before .before .q .given .1)
     (Laws.group-go _ _ (c .before .before .before .before .before .before .before .before .before .before .before
-    .before .read-values .ensures) (c .before .before .before .before .before .before .before .before .before
-    .before .r .given .1)
+    .before .before .read-values .ensures)
+    (c .before .before .before .before .before .before .before .before .before .before .before .r .given .1)
     (Laws.not-sound _ _ _ (c .before .before .judge .ensures) (c .before .if1 .taken) (c .refuse5 .ensures)))))
 
 accept-requires : tie.Need-accept-requires
@@ -160,21 +165,22 @@ unfolding groupsFrom objectsAt devicesAt valuesAt
 returns-6 c =
     Laws.load-go _ (c .before .before .before .before .before .before .before .before .before .before .before
     .before .before .before .before .before .before .before .before .before .before .before .before .before
-    .before .before .before .before .before .before .before .read-counts .ensures) (c .before .before .before
+    .before .before .before .before .before .before .before .before .read-counts .ensures)
+    (c .before .before .before .before .before .before .before .before .before .before .before .before .before
     .before .before .before .before .before .before .before .before .before .before .before .before .before
-    .before .before .before .before .before .before .before .before .before .before .before .before .before .head
-    .given .1)
+    .before .before .before .before .head .given .1)
     (Laws.group-go _ _ (c .before .before .before .before .before .before .before .before .before .before .before
     .before .before .before .before .before .before .before .before .before .before .before .before .before
-    .read-objects .ensures) (c .before .before .before .before .before .before .before .before .before .before
-    .before .before .before .before .before .before .before .before .before .before .before .before .p .given .1)
+    .before .read-objects .ensures)
+    (c .before .before .before .before .before .before .before .before .before .before .before .before .before
+    .before .before .before .before .before .before .before .before .before .before .p .given .1)
     (Laws.group-go _ _ (c .before .before .before .before .before .before .before .before .before .before .before
-    .before .before .before .before .before .before .before .before .read-devices .ensures) (c .before .before
-    .before .before .before .before .before .before .before .before .before .before .before .before .before
-    .before .before .q .given .1)
+    .before .before .before .before .before .before .before .before .before .read-devices .ensures)
+    (c .before .before .before .before .before .before .before .before .before .before .before .before .before
+    .before .before .before .before .before .q .given .1)
     (Laws.group-go _ _ (c .before .before .before .before .before .before .before .before .before .before .before
-    .before .read-values .ensures) (c .before .before .before .before .before .before .before .before .before
-    .before .r .given .1)
+    .before .before .read-values .ensures)
+    (c .before .before .before .before .before .before .before .before .before .before .before .r .given .1)
     (Laws.accepts _ _ _ (c .before .before .judge .ensures) (c .before .if1 .left) (c .accept .ensures)))))
 
 pub load-spec : {M : Type 1} → statement M
