@@ -26,11 +26,12 @@ use Rattle.model.specs.State.{
   view,
   wellFormed,
 }
+use Rattle.model.specs.declared.Counts.{Counts}
 use Rattle.model.specs.declared.Config.{Config}
 use Rattle.model.proofs.Lists.{and-l, and-r, every-at}
 use Rattle.model.proofs.StateBytes.{status-byte, driver-byte, device-byte}
 use Rattle.state.specs.Bytes.{AtMost, Highest}
-use Rattle.state.specs.Change.{configOf}
+use Rattle.state.specs.Change.{configOf, lent}
 use Rattle.state.specs.Formed.{
   statusesRight,
   isAssigned,
@@ -230,46 +231,57 @@ module _ (room : ℕ) (s : List ℕ) (many : ℕ) where
       (λ c. rightAssignment (view room s) many c (deviceIn (view room s) c)) mostDevices
       (λ c l u. ap (λ (p : ℕ). rightAssignment (view room s) many c p) (sym (device-byte room s c l u)))
 
-module _ (room : ℕ) (config : Config) (s : List ℕ) (t : Bool) (f : t ≡ statusesRight (view room s)) where
-  pub formed-status : not t ≡ true → false ≡ wellFormed room config (view room s)
-  unfolding wellFormed statusesRight
+module _ (room : ℕ) (counts : Counts) (kind class owner hardcoded s : List ℕ) (t : Bool)
+    (f : t ≡ statusesRight (view room s)) where
+  abbrev parts : Config
+  parts = lent counts kind class owner hardcoded
+
+  pub formed-status : not t ≡ true → false ≡ wellFormed room parts (view room s)
+  unfolding wellFormed lent statusesRight
   formed-status x = rw (← f, not-true t x)
 
   module _ (y : not t ≡ false) (u : Bool)
-      (g : u ≡ assignmentsRight (view room s) s (driversFrom - 1) (config .counts .drivers) mostDrivers) where
-    pub formed-drivers : not u ≡ true → false ≡ wellFormed room config (view room s)
-    unfolding wellFormed statusesRight
-    formed-drivers x = rw (← f, not-false t y, ← drivers-same room s (config .counts .drivers), ← g, not-true u x)
+      (g : u ≡ assignmentsRight (view room s) s (driversFrom - 1) (counts .drivers) mostDrivers) where
+    pub formed-drivers : not u ≡ true → false ≡ wellFormed room parts (view room s)
+    unfolding wellFormed lent statusesRight
+    formed-drivers x = rw (← f, not-false t y, ← drivers-same room s (counts .drivers), ← g, not-true u x)
 
     module _ (z : not u ≡ false) (v : Bool)
-        (h : v ≡ assignmentsRight (view room s) s (devicesFrom - 1) (config .counts .devices) mostDevices) where
-      pub formed-devices : not v ≡ true → false ≡ wellFormed room config (view room s)
-      unfolding wellFormed statusesRight
+        (h : v ≡ assignmentsRight (view room s) s (devicesFrom - 1) (counts .devices) mostDevices) where
+      pub formed-devices : not v ≡ true → false ≡ wellFormed room parts (view room s)
+      unfolding wellFormed lent statusesRight
       formed-devices x = rw (
         ← f,
         not-false t y,
-        ← drivers-same room s (config .counts .drivers),
+        ← drivers-same room s (counts .drivers),
         ← g,
         not-false u z,
-        ← devices-same room s (config .counts .devices),
+        ← devices-same room s (counts .devices),
         ← h,
         not-true v x,
       )
 
       pub formed-objects : (r : Bool) → not v ≡ false
-          → r ≡ objectsRight (configOf (config .counts .objects) (config .counts .values) (config .objects .kind)
-          (config .objects .class) (config .objects .owner) (config .devices .hardcoded)) (view room s) room
-          → r ≡ wellFormed room config (view room s)
-      unfolding wellFormed statusesRight objectsRight configOf
+          → r ≡ objectsRight (configOf (counts .objects) (counts .values) kind class owner hardcoded) (view room s) room
+          → r ≡ wellFormed room parts (view room s)
+      unfolding wellFormed lent statusesRight objectsRight configOf
       formed-objects r x e =
           rw (
             ← f,
             not-false t y,
-            ← drivers-same room s (config .counts .drivers),
+            ← drivers-same room s (counts .drivers),
             ← g,
             not-false u z,
-            ← devices-same room s (config .counts .devices),
+            ← devices-same room s (counts .devices),
             ← h,
             not-false v x,
           )
           e
+
+-- a configuration's parts are as good as the whole
+pub whole-formed : (room : ℕ) (config : Config) (b : State) (r : Bool)
+    → r ≡ wellFormed room (lent (config .counts) (config .objects .kind) (config .objects .class)
+    (config .objects .owner) (config .devices .hardcoded)) b
+    → r ≡ wellFormed room config b
+unfolding wellFormed lent
+whole-formed room config b r e = e

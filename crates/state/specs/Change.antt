@@ -5,6 +5,7 @@ use lib.ListN.{set}
 use Rattle.model.specs.Base.{put}
 use Rattle.model.specs.State as Columns
 use Rattle.model.specs.State.{State}
+use Rattle.model.specs.declared.Counts.{Counts}
 use Rattle.model.specs.declared.Config.{Config}
 
 -- the status of partition p, or the partition of driver d, device c or object n, or its contents
@@ -28,6 +29,16 @@ unfoldable pub configOf : ℕ → ℕ → List ℕ → List ℕ → List ℕ →
 configOf objects values kind class owner hardcoded =
     record {
       counts = record { drivers = 0; devices = 0; objects = objects; values = values };
+      objects = record { kind = kind; class = class; owner = owner };
+      devices = record { hardcoded = hardcoded };
+      values = record { count = []; entries = [] };
+    }
+
+-- the same with all counts
+unfoldable pub lent : Counts → List ℕ → List ℕ → List ℕ → List ℕ → Config
+lent counts kind class owner hardcoded =
+    record {
+      counts = counts;
       objects = record { kind = kind; class = class; owner = owner };
       devices = record { hardcoded = hardcoded };
       values = record { count = []; entries = [] };

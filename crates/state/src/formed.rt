@@ -8,7 +8,7 @@ ghost use Rattle.model.specs.State.{contentBytes, driversFrom, devicesFrom, rec
 ghost use Rattle.model.specs.State.{areaLength, view, wellFormed};
 ghost use Rattle.state.specs.Bytes.{Lesser};
 ghost use Rattle.state.specs.Splice.{part};
-ghost use Rattle.state.specs.Change.{configOf};
+ghost use Rattle.state.specs.Change.{configOf, lent};
 ghost use Rattle.state.specs.Formed.{statusesRight, isAssigned, assignmentRight, assignmentsRight};
 ghost use Rattle.state.specs.Formed.{objectsRight, isValue, isValueTo, contentRight, Housed, placeRight};
 ghost use Rattle.state.specs.Formed.{byteValues, Blank, Homes};
@@ -28,6 +28,7 @@ use crate::bytes::word;
 use crate::look::status;
 use model::CONTENT_BYTES;
 use model::Config;
+use model::Counts;
 use model::DEVICE_CLASS;
 use model::DRIVER_CLASS;
 use model::HARDCODED_KIND;
@@ -234,10 +235,22 @@ fn objects_formed<'a>(
     highest(area, RECORDS_FROM + RECORD_BYTES * present, area.len()) == 0
 }
 
-// Question 9, for an area of the right length.
-pub fn well_formed(area: &[u8], room: usize, config: Config) -> bool
+// Question 9, for an area of the right length, with what it asks of the configuration lent: a caller that has the
+// configuration copies none of it.
+pub fn is_formed<'a>(
+    area: &[u8],
+    room: usize,
+    counts: Counts,
+    kind: &'a [u8],
+    class: &'a [u8],
+    owner: &'a [u8],
+    hardcoded: &'a [u8],
+) -> bool
     requires { ⌜ length (now area) ≡ areaLength room ⌝ }
-    ensures { λ r. ⌜ r ≡ wellFormed room config (view room (now (area .entry))) ⌝ }
+    ensures { λ r.
+        ⌜ r ≡ wellFormed room
+        (lent counts (now (kind .entry)) (now (class .entry)) (now (owner .entry)) (now (hardcoded .entry)))
+        (view room (now (area .entry))) ⌝ }
 {
     if !statuses_formed(area, room) {
         return false;
@@ -247,7 +260,7 @@ pub fn well_formed(area: &[u8], room: usize, config: Config) -> bool
         room,
         DRIVERS_FROM - 1,
         DRIVER_BYTES,
-        config.counts.drivers as usize,
+        counts.drivers as usize,
     ) {
         return false;
     }
@@ -256,15 +269,31 @@ pub fn well_formed(area: &[u8], room: usize, config: Config) -> bool
         room,
         DEVICES_FROM - 1,
         DEVICE_BYTES,
-        config.counts.devices as usize,
+        counts.devices as usize,
     ) {
         return false;
     }
     objects_formed(
         area,
         room,
-        config.counts.objects as usize,
-        config.counts.values,
+        counts.objects as usize,
+        counts.values,
+        kind,
+        class,
+        owner,
+        hardcoded,
+    )
+}
+
+// Question 9, for an area of the right length.
+pub fn well_formed(area: &[u8], room: usize, config: Config) -> bool
+    requires { ⌜ length (now area) ≡ areaLength room ⌝ }
+    ensures { λ r. ⌜ r ≡ wellFormed room config (view room (now (area .entry))) ⌝ }
+{
+    is_formed(
+        area,
+        room,
+        config.counts,
         &config.objects.kind,
         &config.objects.class,
         &config.objects.owner,
