@@ -30,8 +30,10 @@ use model::CONTENT_BYTES;
 use model::Config;
 use model::Counts;
 use model::DEVICE_CLASS;
+use model::DEVICE_SLOTS;
 use model::DRIVER_CLASS;
 use model::HARDCODED_KIND;
+use model::OBJECT_SLOTS;
 use model::TRANSFER_KIND;
 
 // Contents are two words.
@@ -205,10 +207,10 @@ fn objects_formed<'a>(
     room: usize,
     objects: usize,
     values: u8,
-    kind: &'a [u8],
-    class: &'a [u8],
-    owner: &'a [u8],
-    hardcoded: &'a [u8],
+    kind: &'a [u8; OBJECT_SLOTS],
+    class: &'a [u8; OBJECT_SLOTS],
+    owner: &'a [u8; OBJECT_SLOTS],
+    hardcoded: &'a [u8; DEVICE_SLOTS],
 ) -> bool
     requires { ⌜ length (now area) ≡ areaLength room ⌝ }
     requires { ⌜ Housed (view room (now area)) ⌝ }
@@ -241,10 +243,10 @@ pub fn is_formed<'a>(
     area: &[u8],
     room: usize,
     counts: Counts,
-    kind: &'a [u8],
-    class: &'a [u8],
-    owner: &'a [u8],
-    hardcoded: &'a [u8],
+    kind: &'a [u8; OBJECT_SLOTS],
+    class: &'a [u8; OBJECT_SLOTS],
+    owner: &'a [u8; OBJECT_SLOTS],
+    hardcoded: &'a [u8; DEVICE_SLOTS],
 ) -> bool
     requires { ⌜ length (now area) ≡ areaLength room ⌝ }
     ensures { λ r.
