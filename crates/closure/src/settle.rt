@@ -4,7 +4,7 @@ use crate::grow;
 use crate::words;
 ghost use mathlib.Core.Path.{_≡_};
 ghost use mathlib.Core.Bool.{true};
-ghost use Prim.Native.Nat.{ℕ, _≤_, _<_};
+ghost use Prim.Native.Nat.{ℕ, _≤_};
 ghost use lib.ListN.{length};
 ghost use Rattle.closure.specs.Digits.{bit};
 ghost use Rattle.closure.specs.Scene.{Scene, following, ValuesOk, objectSlots, valueSlots};
@@ -20,20 +20,7 @@ pub struct Stop {
     pub value: usize,
 }
 
-// The next value of a word, at `from` or above, or else from 0; one above the last if there is none.
-fn later(todo: u64, from: usize, last: usize) -> usize
-    requires { ⌜ from < 64 ⌝ }
-    requires { ⌜ last < 64 ⌝ }
-    ensures { λ v. ⌜ (v ≤ last → bit todo v ≡ 1) ⌝ }
-    ensures { λ v. ⌜ (last < v → (u : ℕ) → u ≤ last → bit todo u ≡ 1 → ⊥) ⌝ }
-{
-    let v = words::next(todo, from);
-    if v <= last {
-        return v;
-    }
-    words::next(todo, 0)
-}
-
+// Values are taken in turn, from the last one on, and from 0 again where none is left above.
 pub fn settle<'a>(
     counts: Counts,
     kind: &'a [u8; OBJECT_SLOTS],
@@ -69,12 +56,16 @@ pub fn settle<'a>(
     let mut d = todo;
     let mut from = 0;
     loop {
-        let v = later(d, from, last);
+        let v = words::next(d, from);
         if last < v {
-            return Stop {
-                strange: 0,
-                value: 0,
-            };
+            if from == 0 {
+                return Stop {
+                    strange: 0,
+                    value: 0,
+                };
+            }
+            from = 0;
+            continue;
         }
         let t = grow::touch(
             counts,
