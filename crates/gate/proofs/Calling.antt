@@ -3,7 +3,7 @@
 use Prim.Native.Nat.{ℕ, zero, suc, _≤_, _<_}
 use mathlib.Core.Path.{_≡_, refl, sym, ap, _∙_}
 use mathlib.Core.List.{List}
-use mathlib.Core.Bool.{Bool, true, false}
+use mathlib.Core.Bool.{Bool, true, false, _||_, true≢false}
 use native.Mathlib.Omega.{arith}
 use lib.ListN.{length}
 use lib.Dec.{eqb}
@@ -24,7 +24,9 @@ use Rattle.model.proofs.Facts.{asked}
 use Rattle.questions.specs.Items.{namesNo, placesNo, firstNo}
 use Rattle.questions.proofs.Judging.{join, judge-first}
 use Rattle.gate.specs.Ready.{Complete, Asked}
+use Rattle.gate.specs.Asking.{stores, leaves}
 use Rattle.gate.specs.Carried.{carried}
+use Rattle.gate.proofs.Asking
 
 -- the answer and both areas are those of the definition
 abbrev pub Carried : Config → List ℕ → List ℕ → List ℕ → ℕ → List ℕ → List ℕ → Type 0
@@ -100,6 +102,10 @@ module _ (config : Config) (room : ℕ) (area bytes answer : List ℕ) (k : room
             unfolding carried
             done h x y = rw (last ∙ h, ← o₁₀, ← k) (refl, (x, y))
 
+neither : (x y : Bool) → (x || y) ≡ false → (x ≡ false) × (y ≡ false)
+neither true y h = absurd (true≢false h)
+neither false y h = (refl, h)
+
 -- questions 11 to 20
 module _ (config : Config) (b : State) (op : Operation) {q : ℕ}
     (e : q ≡ firstNo config b op (familyOf (op .code)) (actorOf (op .code)) 0) where
@@ -136,6 +142,17 @@ module _ (config : Config) (b : State) (op : Operation) {q : ℕ}
         let h₂ = asked 11 (q12 op f) _ (h₁ .1) in
         let h₃ = asked 12 (q13 config op f) _ (h₂ .1) in
         record { complete = c; family = k; actor = l; p11 = h₁ .0; p13 = h₃ .0 }
+
+    -- a code that 18 to 20 are not about
+    pub none-asked : {t : Bool} → t ≡ (stores f || leaves f) → t ≡ false → 0 ≡ judged config op b
+    unfolding rest
+    none-asked e h =
+        let n = neither (stores f) (leaves f) (sym e ∙ h) in
+        sym (by-rest ∙ rw (
+          ← Asking.q18-free config b op f a (n .0),
+          ← Asking.q19-free config b op f a (n .0),
+          ← Asking.q20-free config b op f a (n .1),
+        ))
 
     module _ {t₁₈ : Bool} (e₁₈ : t₁₈ ≡ q18 config b op f a) where
       pub no-18 : t₁₈ ≡ false → 18 ≡ judged config op b

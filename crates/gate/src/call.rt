@@ -1,22 +1,34 @@
 // One operation call whose configuration was accepted: questions 7 to 20, and then the effect. `room` is how many
 // object records the state area has.
 ghost use mathlib.Core.Path.{_≡_};
+ghost use mathlib.Core.Bool.{_||_};
 ghost use Rattle.model.specs.State.{records, view};
 ghost use Rattle.model.specs.Gate.{judged};
 ghost use Rattle.gate.specs.Ready.{Accepted, Ready, Complete};
+ghost use Rattle.gate.specs.Asking.{stores, leaves};
 ghost use Rattle.gate.specs.Carried.{carried};
 use crate::ANSWER_BYTES;
+use crate::leaving::is_leaving;
 use crate::leaving::stays_unnamed;
 use crate::next::stays_confined;
 use crate::transfers::are_described;
+use crate::transfers::is_storing;
 use effect::carry_out;
 use model::Config;
+use model::Family;
 use model::Operation;
 use operation::codes::actor_of;
 use operation::codes::family_of;
 use operation::read_operation;
 use state::formed::well_formed;
 use state::look::right_length;
+
+// Questions 18 to 20 are about writes, copies and deactivations.
+fn is_searched(f: Family) -> bool
+    ensures { λ r. ⌜ r ≡ (stores f || leaves f) ⌝ }
+{
+    is_storing(f) | is_leaving(f)
+}
 
 // The number of the first of the questions 11 to 20 that is answered with no, or 0.
 fn judge_all(config: Config, area: &[u8], room: usize, op: Operation) -> u8
@@ -37,6 +49,9 @@ fn judge_all(config: Config, area: &[u8], room: usize, op: Operation) -> u8
     }
     let f = family_of(op.code);
     let a = actor_of(op.code);
+    if !is_searched(f) {
+        return 0;
+    }
     if !are_described(config, area, room, op, f, a) {
         return 18;
     }

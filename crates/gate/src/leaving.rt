@@ -24,7 +24,7 @@ use operation::columns::number_of;
 use state::bytes::byte_at;
 
 // A deactivation.
-fn is_leaving(f: Family) -> bool
+pub fn is_leaving(f: Family) -> bool
     ensures { λ r. ⌜ r ≡ leaves f ⌝ }
 {
     match f {

@@ -20,63 +20,72 @@ family-of-requires c κs = search needs
 actor-of-requires : tie.Need-actor-of-requires
 actor-of-requires c κs = search needs
 
-are-described-requires : tie.Need-are-described-requires
-are-described-requires c κs =
-    let j = c .before .before .before in
-    let a = j .before .before .before .before .before .before .before .before in (a .pre .0, a .pre .1)
+is-searched-requires : tie.Need-is-searched-requires
+is-searched-requires c κs = search needs
 
 returns-2 : tie.Need-returns-2
 returns-2 c =
-    let c₁ = c .before .before .before in let j = c₁ .before .before in
+    let s = c .before .before in let j = s .before .before .before in
     let a = j .before .before .before .before .before .before .before .before in
-    Calling.no-18 _ _ _ (j .judge .ensures (a .args .t1)) (c₁ .before .if1 .left) (c₁ .family-of .ensures)
-    (c .before .before .actor-of .ensures) (c .before .are-described .ensures) (not-true _ (c .if2 .taken))
+    Calling.none-asked _ _ _ (j .judge .ensures (a .args .t1)) (s .before .before .if1 .left)
+    (s .before .family-of .ensures) (s .actor-of .ensures) (c .before .is-searched .ensures)
+    (not-true _ (c .if2 .taken))
 
-stays-confined-requires : tie.Need-stays-confined-requires
-stays-confined-requires c κs =
-    let c₁ = c .before .before .before in let j = c₁ .before .before in
-    let a = j .before .before .before .before .before .before .before .before in (
-      a .pre .0,
-      Calling.asked-of _ _ _ (j .judge .ensures (a .args .t1)) (c₁ .before .if1 .left)
-          (c₁ .family-of .ensures) (c .before .before .actor-of .ensures) (a .pre .1),
-    )
+are-described-requires : tie.Need-are-described-requires
+are-described-requires c κs =
+    let j = c .before .before .before .before .before in
+    let a = j .before .before .before .before .before .before .before .before in (a .pre .0, a .pre .1)
 
 returns-3 : tie.Need-returns-3
 returns-3 c =
-    let c₁ = c .before .before .before in let c₂ = c₁ .before .before .before in let j = c₂ .before in
+    let s = c .before .before .before .before in let j = s .before .before .before in
     let a = j .before .before .before .before .before .before .before .before in
-    Calling.no-19 _ _ _ (j .judge .ensures (a .args .t1)) (c₂ .if1 .left) (c₁ .before .before .family-of .ensures)
-    (c₁ .before .actor-of .ensures) (c₁ .are-described .ensures) (not-false _ (c .before .before .if2 .left))
-    (c .before .stays-confined .ensures) (not-true _ (c .if3 .taken))
+    Calling.no-18 _ _ _ (j .judge .ensures (a .args .t1)) (s .before .before .if1 .left) (s .before .family-of .ensures)
+    (s .actor-of .ensures) (c .before .are-described .ensures) (not-true _ (c .if3 .taken))
 
-stays-unnamed-requires : tie.Need-stays-unnamed-requires
-stays-unnamed-requires c κs =
-    let c₁ = c .before .before .before .before in let j = c₁ .before .before .before in
+stays-confined-requires : tie.Need-stays-confined-requires
+stays-confined-requires c κs =
+    let s = c .before .before .before .before in let j = s .before .before .before in
     let a = j .before .before .before .before .before .before .before .before in (
       a .pre .0,
-      Calling.asked-of _ _ _ (j .judge .ensures (a .args .t1)) (c₁ .before .before .if1 .left)
-          (c₁ .before .family-of .ensures) (c₁ .actor-of .ensures) (a .pre .1),
+      Calling.asked-of _ _ _ (j .judge .ensures (a .args .t1)) (s .before .before .if1 .left)
+          (s .before .family-of .ensures) (s .actor-of .ensures) (a .pre .1),
     )
 
 returns-4 : tie.Need-returns-4
 returns-4 c =
-    let c₁ = c .before .before .before in let c₂ = c₁ .before .before .before in
-    let j = c₂ .before .before .before in
+    let d = c .before .before .before in let s = d .before .before .before in let j = s .before .before .before in
     let a = j .before .before .before .before .before .before .before .before in
-    Calling.all-yes _ _ _ (j .judge .ensures (a .args .t1)) (c₂ .before .before .if1 .left)
-    (c₂ .before .family-of .ensures) (c₂ .actor-of .ensures) (c₁ .before .before .are-described .ensures)
-    (not-false _ (c₁ .before .if2 .left)) (c₁ .stays-confined .ensures) (not-false _ (c .before .before .if3 .left))
-    (c .before .stays-unnamed .ensures) (c .if4 .taken)
+    Calling.no-19 _ _ _ (j .judge .ensures (a .args .t1)) (s .before .before .if1 .left) (s .before .family-of .ensures)
+    (s .actor-of .ensures) (d .are-described .ensures) (not-false _ (c .before .before .if3 .left))
+    (c .before .stays-confined .ensures) (not-true _ (c .if4 .taken))
+
+stays-unnamed-requires : tie.Need-stays-unnamed-requires
+stays-unnamed-requires c κs =
+    let s = c .before .before .before .before .before .before in let j = s .before .before .before in
+    let a = j .before .before .before .before .before .before .before .before in (
+      a .pre .0,
+      Calling.asked-of _ _ _ (j .judge .ensures (a .args .t1)) (s .before .before .if1 .left)
+          (s .before .family-of .ensures) (s .actor-of .ensures) (a .pre .1),
+    )
 
 returns-5 : tie.Need-returns-5
 returns-5 c =
-    let c₁ = c .before .before .before in let c₂ = c₁ .before .before .before in
-    let j = c₂ .before .before .before in
-    let a = j .before .before .before .before .before .before .before .before in
-    Calling.no-20 _ _ _ (j .judge .ensures (a .args .t1)) (c₂ .before .before .if1 .left)
-    (c₂ .before .family-of .ensures) (c₂ .actor-of .ensures) (c₁ .before .before .are-described .ensures)
-    (not-false _ (c₁ .before .if2 .left)) (c₁ .stays-confined .ensures) (not-false _ (c .before .before .if3 .left))
-    (c .before .stays-unnamed .ensures) (c .if4 .left)
+    let g = c .before .before .before in let d = g .before .before in let s = d .before .before .before in
+    let j = s .before .before .before in let a = j .before .before .before .before .before .before .before .before in
+    Calling.all-yes _ _ _ (j .judge .ensures (a .args .t1)) (s .before .before .if1 .left)
+    (s .before .family-of .ensures) (s .actor-of .ensures) (d .are-described .ensures)
+    (not-false _ (g .before .if3 .left)) (g .stays-confined .ensures) (not-false _ (c .before .before .if4 .left))
+    (c .before .stays-unnamed .ensures) (c .if5 .taken)
+
+returns-6 : tie.Need-returns-6
+returns-6 c =
+    let g = c .before .before .before in let d = g .before .before in let s = d .before .before .before in
+    let j = s .before .before .before in let a = j .before .before .before .before .before .before .before .before in
+    Calling.no-20 _ _ _ (j .judge .ensures (a .args .t1)) (s .before .before .if1 .left)
+    (s .before .family-of .ensures) (s .actor-of .ensures) (d .are-described .ensures)
+    (not-false _ (g .before .if3 .left)) (g .stays-confined .ensures) (not-false _ (c .before .before .if4 .left))
+    (c .before .stays-unnamed .ensures) (c .if5 .left)
 
 pub judge-all-spec : {M : Type 1} → statement M
 judge-all-spec =
@@ -86,10 +95,12 @@ judge-all-spec =
     returns
     family-of-requires
     actor-of-requires
-    are-described-requires
+    is-searched-requires
     returns-2
-    stays-confined-requires
+    are-described-requires
     returns-3
-    stays-unnamed-requires
+    stays-confined-requires
     returns-4
-    returns-5)
+    stays-unnamed-requires
+    returns-5
+    returns-6)
