@@ -54,7 +54,8 @@ class Book(unittest.TestCase):
 
     def test_partitions(self):
         state = after((5, 0, 7, ()), (5, 0, 8, ()), (6, 0, 7, ()))
-        self.assertEqual((state.existing(), state.created, state.destroyed), ([8], {7: 2, 8: 3}, {7: 4}))
+        self.assertEqual((state.existing(), state.created, state.destroyed),
+                         ([8], {7: "row 2", 8: "row 3"}, {7: "row 4"}))
 
     def test_the_state_before_is_left_alone(self):
         state = after(*ENTER)

@@ -6,6 +6,7 @@ blocks, so that no command stands there untried.
 """
 import os
 import re
+import shutil
 import subprocess
 import unittest
 from pathlib import Path
@@ -44,6 +45,7 @@ class Manual(InFolder):
     def setUp(self):
         super().setUp()
         Path("tools").symlink_to(ROOT / "tools")
+        shutil.copytree(ROOT / "examples" / "today", "examples/today")
         self.text = MANUAL.read_text(encoding="utf-8")
 
     def run_command(self, line):

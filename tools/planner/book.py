@@ -8,7 +8,7 @@ NONE = 0
 
 @dataclass
 class State:
-    """Where all things are and what they hold; partitions with the rows that created and destroyed them."""
+    """Where all things are and what they hold; partitions by the spots that created and destroyed them."""
     created: dict = field(default_factory=dict)
     destroyed: dict = field(default_factory=dict)
     drivers: dict = field(default_factory=dict)
@@ -54,9 +54,9 @@ def follow(config, state, move):
     """The state after an accepted move."""
     after = state.copy()
     if move.code in w.CREATES:
-        after.created[move.where] = move.row
+        after.created[move.where] = move.spot
     elif move.code in w.DESTROYS:
-        after.destroyed[move.where] = move.row
+        after.destroyed[move.where] = move.spot
     elif move.code in w.WRITES:
         for item in move.what:
             after.contents[item.object] = item.value if item.form == w.VALUE_FORM else item.raw
@@ -75,9 +75,9 @@ def relocate(config, after, move):
     target = move.where if entering else NONE
     if move.actor != w.NOBODY:
         (after.drivers if move.actor == w.DRIVER else after.devices)[move.who] = target
-        after.moved[(move.actor, move.who)] = move.row
+        after.moved[(move.actor, move.who)] = move.spot
     for number in concerned(config, move):
         after.objects[number] = target
-        after.moved[(w.EXTERNAL, number)] = move.row
+        after.moved[(w.EXTERNAL, number)] = move.spot
         if entering and config.objects[number].kind != w.HARDCODED:
             after.contents[number] = cleared(config, number)

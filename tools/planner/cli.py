@@ -1,10 +1,10 @@
 """The commands of tools/plan and their exit statuses."""
 import argparse
 import shlex
-from pathlib import Path
 
-from . import disk, files, office, unpack
+from . import disk, files, office, starting, unpack
 from . import wording as w
+from .arguments import Parser, add_argument
 from .chain import BrokenChain
 from .config import Config
 from .judged import judge_folder
@@ -13,7 +13,8 @@ from .report import ANSWER_COLUMNS, answer_rows, check_lines, explain_lines, ref
 from .sheet import encode
 from .table import TableError, TableErrors
 from .tables import write_tables
-from .terminal import complain, finish, prepare, say, visible
+from .terminal import complain, finish, prepare, say
+from .visit import VISIT
 
 DONE, REFUSED, USAGE, TABLES, PROGRAM, UNEXPLAINED = range(6)
 STATUSES = """exit statuses:
@@ -54,23 +55,13 @@ def carry_out(arguments, tool):
         return fail(PROGRAM, fault)
     except BrokenChain as fault:
         return fail(UNEXPLAINED, fault)
-    except UsageError as fault:
+    except (UsageError, starting.AreaError) as fault:
         return fail(USAGE, fault)
 
 
 def fail(status, fault):
     complain(fault)
     return status
-
-
-class Parser(argparse.ArgumentParser):
-    """The command line; what was typed is said again without control characters, and help is said as all else."""
-
-    def error(self, message):
-        super().error(visible(message))
-
-    def print_help(self, file=None):
-        say([self.format_help().rstrip("\n")])
 
 
 def parser():
@@ -80,25 +71,29 @@ def parser():
     commands = top.add_subparsers(required=True, metavar="COMMAND")
     for name, run, arguments, text in (
             ("new", run_new, ("DIR",), "make empty tables in a folder"),
+            ("start", run_start, ("DIR", "AREA", "--replace"), "make bringup.csv from a state area of a controller"),
             ("check", run_check, ("DIR",), "make line.bin and session.bin and judge every move"),
-            ("explain", run_explain, ("DIR", "ROW"), "say why a row is refused, for 19 and 20 link by link"),
+            ("explain", run_explain, ("DIR", "SPOT"), "say why a row is refused, for 19 and 20 link by link"),
             ("picture", run_picture, ("DIR", "[ROW]"), "draw the partitions after the visit, or at a row"),
             ("csv", run_csv, ("DIR",), "write the answers as answers.csv, to paste beside the plan"),
             ("import", run_import, ("LINE", "[DIR]"), "make tables from a line.bin, and from a session.bin beside it")):
         command = commands.add_parser(name, help=text, description=text)
         for argument in arguments:
-            bare = argument.strip("[]")
-            command.add_argument(bare.lower(), metavar=bare, type=int if bare == "ROW" else Path,
-                                 nargs="?" if argument != bare else None)
+            add_argument(command, argument)
         command.set_defaults(run=run)
     return top
 
 
-def load(options):
+def folder_of(options):
     with disk.told("read", options.dir):
         if not options.dir.is_dir():
             raise UsageError(f"{options.dir} is not a folder")
-    return judge_folder(office.find_office(options.office), options.dir)
+    return options.dir
+
+
+def load(options):
+    folder = folder_of(options)
+    return judge_folder(office.find_office(options.office), folder)
 
 
 def judged(plan):
@@ -109,19 +104,29 @@ def judged(plan):
     return not lines
 
 
-def step_at(plan, row):
-    for step in plan.steps:
+def step_at(plan, row, table=VISIT):
+    """The step of a row of visit.csv, or of bringup.csv."""
+    steps = plan.visit if table == VISIT else plan.steps[:plan.first]
+    for step in steps:
         if step.move.row == row:
             return step
-    rows = [step.move.row for step in plan.steps]
+    rows = [step.move.row for step in steps]
     there = f"; moves are in rows {rows[0]} to {rows[-1]}" if rows else ""
-    raise UsageError(f"visit.csv has no move in row {row}{there}")
+    raise UsageError(f"{table} has no move in row {row}{there}")
 
 
 def run_new(options):
     made = write_tables(options.dir, Config())
     say([f"Made in {options.dir}: {', '.join(made)}"])
     return DONE
+
+
+def run_start(options):
+    """The bring-up to what a controller stored; its state is compared byte for byte."""
+    folder = folder_of(options)
+    started = starting.start(office.find_office(options.office), folder, options.area, options.replace)
+    say(starting.start_lines(started, folder, options.area))
+    return DONE if started.same else REFUSED
 
 
 def run_check(options):
@@ -137,7 +142,7 @@ def run_explain(options):
     plan = load(options)
     if not judged(plan):
         return REFUSED
-    say(explain_lines(plan, step_at(plan, options.row)))
+    say(explain_lines(plan, step_at(plan, *options.spot)))
     return DONE
 
 

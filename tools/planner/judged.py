@@ -7,7 +7,7 @@ from .chain import BrokenChain
 from .config import Config
 from .finding import Finding
 from .tables import open_tables, read_line
-from .visit import read_visit
+from .visit import BRINGUP, VISIT, read_visit
 
 
 @dataclass(frozen=True)
@@ -26,13 +26,28 @@ class Step:
 
 @dataclass(frozen=True)
 class Plan:
-    """A configuration, the files made of it, the program's verdict, and the steps (none if the line was refused)."""
+    """A configuration, the files made of it, the program's verdict, and the steps (none if the line was refused).
+
+    The steps are those of the bring-up and then those of the visit, of which `first` is the first's index.
+    """
     config: Config
     line: bytes
     session: bytes
     verdict: office.Verdict
     steps: list
     table: object = None
+    first: int = 0
+    bringup: object = None
+
+    @property
+    def visit(self):
+        """The steps of visit.csv alone."""
+        return self.steps[self.first:]
+
+    @property
+    def failed_bringup(self):
+        """The refused steps of bringup.csv: all that is told of it."""
+        return [step for step in self.steps[:self.first] if not step.accepted]
 
     def explained(self, step):
         """On what a move failed; BrokenChain if a 19 or 20 cannot be explained by a chain that holds."""
@@ -52,17 +67,18 @@ class Plan:
 def judge_folder(program, folder):
     """Reads a folder's tables and has the program judge them; nothing is written there."""
     line = read_line(folder)
-    table = open_tables(folder, ["visit.csv"])["visit.csv"]
-    moves = read_visit(line, table.rows)
-    return judge_moves(program, line.config, moves, table)
+    tables = open_tables(folder, [BRINGUP, VISIT])
+    moves = read_visit(line, tables[BRINGUP].rows + tables[VISIT].rows)
+    return judge_moves(program, line.config, moves, tables[VISIT], tables[BRINGUP])
 
 
-def judge_moves(program, config, moves, table=None):
-    """Has the program judge moves on a configuration."""
+def judge_moves(program, config, moves, table=None, bringup=None):
+    """Has the program judge moves on a configuration, those of the bring-up and of the visit as one session."""
     line, session = pack.line_bytes(config), pack.session_bytes(moves)
     verdict = office.judge(program, line, session)
     judged = not (verdict.too_long or verdict.refused_line)
-    return Plan(config, line, session, verdict, steps_of(config, moves, verdict.answers) if judged else [], table)
+    steps = steps_of(config, moves, verdict.answers) if judged else []
+    return Plan(config, line, session, verdict, steps, table, sum(step.move.bringup for step in steps), bringup)
 
 
 def steps_of(config, moves, answers):

@@ -89,9 +89,9 @@ def copy_findings(config, pair):
 def partition_use(config, state, move):
     name, things = config.full_partition(move.where), [("partition", move.where)]
     if move.where in state.destroyed:
-        text = f"{name} was destroyed in row {state.destroyed[move.where]}; its number cannot be used again"
+        text = f"{name} was destroyed in {state.destroyed[move.where]}; its number cannot be used again"
     elif move.where in state.created:
-        text = f"{name} was already created in row {state.created[move.where]}"
+        text = f"{name} was already created in {state.created[move.where]}"
     else:
         text = f"{name} was never created"
     return [Finding(text, things)]
@@ -111,10 +111,10 @@ def activity(config, state, move):
     entering = move.code in w.ACTIVATES
     if move.actor != w.NOBODY:
         name, at = config.actor(move.actor, move.who), state.actor(move.actor, move.who)
-        things, row = [(move.actor, move.who)], state.moved.get((move.actor, move.who))
+        things, spot = [(move.actor, move.who)], state.moved.get((move.actor, move.who))
         if entering:
-            return [Finding(f"{name} is already active in {config.partition(at)}, since row {row}", things)]
-        left = f"; it left in row {row}" if row else ""
+            return [Finding(f"{name} is already active in {config.partition(at)}, since {spot}", things)]
+        left = f"; it left in {spot}" if spot else ""
         return [Finding(f"{name} is not active{left}", things)]
     return [Finding(f"{config.describe(n)} is {'already ' if entering else ''}{place(config, state.objects[n])}",
                     [("object", n)]) for n in move.named() if (state.objects[n] != NONE) == entering]

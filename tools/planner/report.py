@@ -5,7 +5,7 @@ import textwrap
 from . import wording as w
 from .line_faults import line_findings
 from .reach import chain_sentences
-from .visit import move_words
+from .visit import BRINGUP, move_words
 
 WIDTH = 110
 MOVE_COLUMNS = ("operation", "who", "where", "what")
@@ -32,8 +32,19 @@ def line_summary(plan):
     config = plan.config
     counts = [plural(len(config.drivers), "driver"), plural(len(config.devices), "card"),
               plural(len(config.objects), "object"), plural(len(config.values), "value")]
-    return [f"Line: {', '.join(counts)}; line.bin has {plural(len(plan.line), 'byte')}.",
-            f"Visit: {plural(len(plan.table.rows), 'move')}; session.bin has {plural(len(plan.session), 'byte')}."]
+    lines = [f"Line: {', '.join(counts)}; line.bin has {plural(len(plan.line), 'byte')}."]
+    if plan.bringup and plan.bringup.rows:
+        lines.append(f"Bring-up: {plural(len(plan.bringup.rows), 'move')}{bringup_verdict(plan)}.")
+    size = plural(len(plan.session), 'byte')
+    return lines + [f"Visit: {plural(len(plan.table.rows), 'move')}; session.bin has {size}."]
+
+
+def bringup_verdict(plan):
+    """How the bring-up went, behind the count of its moves; nothing if no move was judged."""
+    if not plan.failed_bringup:
+        return ", all accepted" if plan.first else ""
+    rows = [step.move.row for step in plan.failed_bringup]
+    return f", {len(rows)} refused (row{'' if len(rows) == 1 else 's'} {', '.join(map(str, rows))} of {BRINGUP})"
 
 
 def refused_whole(plan):
@@ -59,16 +70,23 @@ def check_lines(plan, command):
         return line_summary(plan) + [""] + refused_whole(plan)
     lines = line_summary(plan) + [""]
     digits = [len(str(number)) for number in (plan.table.last, len(plan.steps))]
-    for step in plan.steps:
-        verdict = "accepted" if step.accepted else f"refused {step.answer}"
-        first = f"row {step.move.row:>{digits[0]}} (move {step.place:>{digits[1]}})  {verdict:<11} "
-        lines += wrap(move_words(plan.config, step.move), first, " " * len(first))
-        if not step.accepted:
-            lines += refusal_lines(plan, step, command, len(first))
-    refused = [step for step in plan.steps if not step.accepted]
-    total = f"{plural(len(plan.steps), 'move')}: {len(plan.steps) - len(refused)} accepted, {len(refused)} refused"
+    for step in plan.failed_bringup:
+        lines += step_lines(plan, step, f"{BRINGUP}, row {step.move.row} (move {step.place})", command)
+    lines += [""] if plan.failed_bringup else []
+    for step in plan.visit:
+        lines += step_lines(plan, step, f"row {step.move.row:>{digits[0]}} (move {step.place:>{digits[1]}})", command)
+    refused = [step for step in plan.visit if not step.accepted]
+    total = f"{plural(len(plan.visit), 'move')}: {len(plan.visit) - len(refused)} accepted, {len(refused)} refused"
     rows = ", ".join(str(step.move.row) for step in refused)
     return lines + ["", f"{total} (row{'' if len(refused) == 1 else 's'} {rows})." if refused else f"{total}."]
+
+
+def step_lines(plan, step, place, command):
+    """A move with its answer, behind the words for its place."""
+    verdict = "accepted" if step.accepted else f"refused {step.answer}"
+    first = f"{place}  {verdict:<11} "
+    lines = wrap(move_words(plan.config, step.move), first, " " * len(first))
+    return lines if step.accepted else lines + refusal_lines(plan, step, command, len(first))
 
 
 def refusal_lines(plan, step, command, margin):
@@ -79,13 +97,13 @@ def refusal_lines(plan, step, command, margin):
     for finding in findings:
         lines += wrap(sentence(finding.text), left + "No: ", left + "    ")
         if finding.chain:
-            lines.append(left + f"    See: {command} {step.move.row}")
+            lines.append(left + f"    See: {command} {'bringup:' if step.move.bringup else ''}{step.move.row}")
     return lines if findings else lines + [left + "No; the tables do not show on what."]
 
 
 def explain_lines(plan, step):
     """The explanation of one row: for 19 and 20 the chain link by link."""
-    head = wrap(move_words(plan.config, step.move), f"Row {step.move.row} (move {step.place}): ", "    ")
+    head = wrap(move_words(plan.config, step.move), f"{sentence(step.move.spot)[:-1]} (move {step.place}): ", "    ")
     if step.accepted:
         return head + ["Accepted: every question is answered yes."]
     lines = head + wrap(w.question(step.answer, step.move.code), f"Refused by question {step.answer}: ", "    ")
@@ -118,10 +136,17 @@ def rests_on(config, step, links):
 
 
 def answer_rows(plan):
-    """A row for each row of visit.csv below its heading, blank ones too, so that it can be pasted beside the plan."""
+    """A row for each row of visit.csv below its heading, blank ones too, so that it can be pasted beside the plan.
+
+    Refused rows of the bring-up stand below them.
+    """
     written = {row.number: row for row in plan.table.rows}
-    rows = {step.move.row: answer_row(plan, step, written[step.move.row]) for step in plan.steps}
-    return [rows.get(number, (number,) + ("",) * (len(ANSWER_COLUMNS) - 1)) for number in range(2, plan.table.last + 1)]
+    rows = {step.move.row: answer_row(plan, step, written[step.move.row]) for step in plan.visit}
+    blank = ("",) * (len(ANSWER_COLUMNS) - 1)
+    made = [rows.get(number, (number,) + blank) for number in range(2, plan.table.last + 1)]
+    before = {row.number: row for row in plan.bringup.rows} if plan.failed_bringup else {}
+    return made + [(f"{BRINGUP} {step.move.row}",) + answer_row(plan, step, before[step.move.row])[1:]
+                   for step in plan.failed_bringup]
 
 
 def answer_row(plan, step, row):

@@ -8,7 +8,7 @@ from .config import Config, Device, Entry, Object, Value
 from .names import Names, key, likely
 from .sheet import Form, encode
 from .table import TableError, TableErrors, gather, read_table
-from .visit import move_cells
+from .visit import BRINGUP, VISIT, move_cells
 
 COLUMNS = {
     "partitions.csv": ("partition", "number"),
@@ -16,9 +16,11 @@ COLUMNS = {
     "cards.csv": ("card", "hard-wired value"),
     "objects.csv": ("object", "kind", "owner"),
     "values.csv": ("value", "object", "mode", "put"),
-    "visit.csv": ("operation", "who", "where", "what"),
+    VISIT: ("operation", "who", "where", "what"),
+    BRINGUP: ("operation", "who", "where", "what"),
 }
-OPTIONAL = ("partitions.csv",)
+OPTIONAL = ("partitions.csv", BRINGUP)
+OF_LINE = [name for name in COLUMNS if name not in (VISIT, BRINGUP)]
 NOTE = "note"
 SHORT_KINDS = {w.TRANSFER: "transfer", w.FUNCTION: "function", w.DATA: "data", w.HARDCODED: "hard-wired"}
 
@@ -43,7 +45,7 @@ class Line:
 
 def read_line(folder):
     """The line that a folder's tables tell. Faults are gathered table by table, since each rests on those before."""
-    tables = open_tables(folder, [name for name in COLUMNS if name != "visit.csv"])
+    tables = open_tables(folder, OF_LINE)
     line = Line()
     take_partitions(line, tables["partitions.csv"].rows)
     take_owners(line, tables["drivers.csv"].rows, tables["cards.csv"].rows)
@@ -178,19 +180,19 @@ def table_rows(config, moves):
         "cards.csv": [(device.name, config.value(device.hardcoded)) for device in config.devices.values()],
         "objects.csv": [(one.name, SHORT_KINDS[one.kind], owner(one)) for one in config.objects.values()],
         "values.csv": [row for value in config.values.values() for row in entry_rows(value)],
-        "visit.csv": [move_cells(config, move) for move in moves],
+        VISIT: [move_cells(config, move) for move in moves],
     }
 
 
 def write_tables(folder, config, moves=()):
-    """Writes all tables into a folder, each with a column for notes; none may be there already."""
-    folder = Path(folder)
+    """Writes all tables but the bring-up into a folder, each with a column for notes; none may be there already."""
+    folder, made = Path(folder), table_rows(config, moves)
     with disk.told("write"):
-        there = [name for name in COLUMNS if (folder / name).exists()]
+        there = [name for name in made if (folder / name).exists()]
     if there:
         raise TableError(folder / there[0], None, None, "is already there; nothing was changed")
     with disk.told("write"):
         folder.mkdir(parents=True, exist_ok=True)
     disk.put(folder, {name: encode([COLUMNS[name] + (NOTE,)] + [tuple(row) + ("",) for row in rows], Form())
-                      for name, rows in table_rows(config, moves).items()})
-    return list(COLUMNS)
+                      for name, rows in made.items()})
+    return list(made)

@@ -1,10 +1,11 @@
-"""visit.csv, one move a row, into moves with numbers; and a move back into words."""
+"""visit.csv and bringup.csv, one move a row, into moves with numbers; and a move back into words."""
 from dataclasses import dataclass
 
 from . import wording as w
 from .names import CONTENT_WORDS, key, likely, number_of
 from .table import LINE_BLANKS, composed, gather, squeezed
 
+VISIT, BRINGUP = "visit.csv", "bringup.csv"
 COLUMNS_OF = {"who": "who", "where": "where", "items": "what", "pairs": "what", "objects": "what"}
 
 
@@ -26,16 +27,22 @@ class Pair:
 
 @dataclass(frozen=True)
 class Move:
-    """An operation of a visit: the spreadsheet's row, the code, who acts, the partition, and what with."""
+    """An operation: the spreadsheet's row, the code, who acts, the partition, what with; and whether of bringup.csv."""
     row: int
     code: int
     who: int = 0
     where: int = 0
     what: tuple = ()
+    bringup: bool = False
 
     @property
     def actor(self):
         return w.CODES[self.code].actor
+
+    @property
+    def spot(self):
+        """Where the move stands: 'row 4', or 'row 4 of bringup.csv' where the visit's own rows are not meant."""
+        return f"row {self.row} of {BRINGUP}" if self.bringup else f"row {self.row}"
 
     def stored_to(self):
         """The objects that the move stores into."""
@@ -51,7 +58,7 @@ class Move:
 
 
 def read_visit(line, rows):
-    """The moves of visit.csv's rows."""
+    """The moves of the rows of visit.csv, and of bringup.csv."""
     return gather(rows, lambda row: read_move(line, row))
 
 
@@ -72,7 +79,7 @@ def read_move(line, row):
     for part, take in (("items", read_item), ("pairs", read_pair), ("objects", read_object)):
         if part in code.fields:
             what = tuple(take(line, row, text) for text in parts_of(row))
-    return Move(row.number, code.number, who, where, what)
+    return Move(row.number, code.number, who, where, what, row.file == BRINGUP)
 
 
 def read_actor(line, row):

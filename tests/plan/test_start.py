@@ -1,0 +1,196 @@
+"""A bring-up made from a stored area gives that area again, and check speaks of the visit's rows."""
+import shutil
+import unittest
+from pathlib import Path
+
+from common import PROGRAM, ROOT, InFolder, plan
+from lines import random_line, random_visit
+from planner import pack
+from planner.area import AREA_BYTES, CARDS_AT, DRIVERS_AT, MARK, OBJECTS_AT, RECORD, area_bytes, digest, read_area
+from planner.judged import judge_folder, judge_moves
+from planner.start import bring_up
+from planner.visit import Move
+
+TODAY = Path("examples/today")
+# A byte of the example's area, what it is set to, and what is said of it.
+FAULTS = (
+    (1, 3, "byte 1: 3 is no standing of a partition"),
+    (0, 1, "byte 0: 1 is no standing of a partition"),
+    (DRIVERS_AT, 7, "byte 64: driver 1 is in partition 7, which does not exist in the area"),
+    (CARDS_AT + 3, 1, "byte 83: the tables have no card 4, and the area has it in 1"),
+    (OBJECTS_AT, 0, "byte 96: Diverter wiring (hard-wired descriptor of card Diverter) is in 0, and its owner is not"),
+    (OBJECTS_AT + 1, 2, "byte 97: Diverter wiring (hard-wired descriptor of card Diverter) holds 'Scanner start-up', "
+                        "and by cards.csv 'Diverter start-up'"),
+    (OBJECTS_AT + RECORD + 1, 11, "byte 114: what Diverter ring (transfer descriptor of card Diverter) holds is no "
+                                  "value of the tables"),
+    (OBJECTS_AT + RECORD + 2, 1, "byte 114: what Diverter ring"),
+    (AREA_BYTES - 1, 1, "byte 1711: the tables have no object 96, and the area has something there"),
+)
+
+
+def comes_back(config, state):
+    """Whether the bring-up to a state is accepted and leads there, byte for byte."""
+    area = area_bytes(config, state)
+    judged = judge_moves(PROGRAM, config, bring_up(config, read_area(config, area)).moves)
+    return judged.verdict.accepted and area_bytes(config, judged.last_state()) == area
+
+
+class BringUps(unittest.TestCase):
+    def test_every_state_of_the_example(self):
+        judged = judge_folder(PROGRAM, ROOT / "examples" / "visit")
+        for step in judged.steps:
+            self.assertTrue(comes_back(judged.config, step.after), step.move.row)
+
+    def test_states_of_random_sessions(self):
+        """With partitions without a driver, destroyed ones, and things that left and kept what they held."""
+        kept = alone = 0
+        for seed in range(100):
+            config = random_line(seed)
+            leave = [Move(99, 10, driver) for driver in config.drivers if seed % 2]
+            state = judge_moves(PROGRAM, config, random_visit(config, seed) + leave).last_state()
+            self.assertTrue(comes_back(config, state), f"seed {seed}")
+            kept += any(content and not config.objects[n].kind == 4 and not state.objects[n]
+                        for n, content in state.contents.items() if config.is_descriptor(n))
+            alone += any(state.contents[n] and place and place not in state.drivers.values()
+                         for n, place in state.objects.items() if config.objects[n].kind == 1)
+        self.assertGreater(min(kept, alone), 5, (kept, alone))
+
+
+class Today(InFolder):
+    def setUp(self):
+        super().setUp()
+        shutil.copytree(ROOT / TODAY, TODAY)
+        self.area = (TODAY / "state.bin").read_bytes()
+
+    def start(self, data, *words):
+        Path("stored").write_bytes(data)
+        return plan("start", TODAY, "stored", "--replace", *words)
+
+    def test_the_stored_files_are_what_is_made(self):
+        for name in ("bringup.csv", "line.bin", "session.bin"):
+            (TODAY / name).unlink()
+        self.assertEqual(plan("start", TODAY, TODAY / "state.bin"), (
+            0, "Made: examples/today/bringup.csv, 7 moves: 7 accepted, 0 refused.\nThe state after it is that of "
+               "examples/today/state.bin, byte for byte (1,728 bytes).\n", ""))
+        status, text, _ = plan("check", TODAY)
+        self.assertEqual(status, 1)
+        self.same_as_golden("today.txt", text)
+        for name in ("bringup.csv", "line.bin", "session.bin"):
+            self.same_as_stored(ROOT / TODAY / name, (TODAY / name).read_bytes(), f"{name} is not what is made")
+
+    def test_a_bring_up_that_is_there_stays(self):
+        before = (TODAY / "bringup.csv").read_bytes()
+        (TODAY / "bringup.csv").write_bytes(before + b"create,,9,,\n")
+        self.assertEqual(plan("start", TODAY, TODAY / "state.bin"), (
+            3, "", "plan: examples/today/bringup.csv: is already there; nothing was changed (--replace does it)\n"))
+        self.assertEqual(self.start(self.area)[0], 0)
+        self.assertEqual((TODAY / "bringup.csv").read_bytes(), before)
+
+    def test_as_the_example_controller_stores_it(self):
+        whole = MARK + digest((TODAY / "line.bin").read_bytes()) + self.area
+        other = MARK + digest(b"another") + self.area
+        self.assertEqual(self.start(whole + digest(whole))[0], 0)
+        for data, said in ((whole + digest(other), "is damaged: its checksum does not fit"),
+                           (other + digest(other), "was stored with another line file than these tables make"),
+                           (self.area[1:], "has 1,727 bytes; a state area has 1,728, and 1,752 as the example "
+                                           "controller stores it")):
+            self.assertEqual(self.start(data), (2, "", f"plan: stored: {said}\n"))
+
+    def test_an_area_that_is_none_of_this_line(self):
+        for at, byte, said in FAULTS:
+            data = bytearray(self.area)
+            data[at] = byte
+            status, text, complaints = self.start(data)
+            self.assertEqual((status, text), (2, ""))
+            self.assertIn(f"plan: stored: {said}", complaints)
+
+    def test_what_cannot_be_brought_about_is_said(self):
+        """An area that no moves lead to: the scale is on the bench, and the diverter still reads its record."""
+        judged = judge_folder(PROGRAM, self.visit)
+        state = judged.steps[14].after.copy()
+        state.contents[11] = next(n for n, one in judged.config.values.items() if one.name == "Divert by weight")
+        status, text, _ = self.start(area_bytes(judged.config, state))
+        self.assertEqual(status, 1)
+        self.assertIn("1 refused.", text)
+        self.assertIn("The state after it is not that of stored. It should be:", text)
+        self.assertIn("  What Job queue (transfer descriptor of driver Sorting control) holds: 'Divert by weight', and "
+                      "not cleared.", text)
+
+    def test_a_line_without_drivers(self):
+        shutil.copytree(TODAY, "alone")
+        Path("alone/drivers.csv").write_text("driver,note\n", encoding="utf-8")
+        objects = Path("alone/objects.csv").read_text(encoding="utf-8")
+        Path("alone/objects.csv").write_text(objects.replace("Sorting control", "external")
+                                             .replace("Service laptop", "external"), encoding="utf-8")
+        data = bytearray(self.area)
+        data[DRIVERS_AT] = 0
+        Path("stored").write_bytes(data)
+        status, text, _ = plan("start", "alone", "stored", "--replace")
+        self.assertEqual(status, 1)
+        self.assertIn("  What Scale ring (transfer descriptor of card Scale) holds: 'Weigh parcels', and not cleared.",
+                      text)
+        self.assertTrue(text.endswith("Why: the line has no driver, so that nothing can be written.\n"), text)
+
+    def test_a_line_that_is_refused(self):
+        text = (TODAY / "objects.csv").read_text(encoding="utf-8")
+        (TODAY / "objects.csv").write_text(text + "Wiring,hard-wired,Scale,\n", encoding="utf-8")
+        data = bytearray(self.area)
+        data[OBJECTS_AT + 15 * RECORD:OBJECTS_AT + 15 * RECORD + 2] = bytes((1, 3))
+        before = (TODAY / "bringup.csv").read_bytes()
+        status, text, _ = self.start(data)
+        self.assertEqual(status, 1)
+        self.assertIn("The line is refused by question 5", text)
+        self.assertEqual((TODAY / "bringup.csv").read_bytes(), before)
+
+
+class Told(InFolder):
+    """What check, explain and csv say of a plan with a bring-up, one row of which is refused."""
+
+    def setUp(self):
+        super().setUp()
+        shutil.copytree(ROOT / TODAY, TODAY)
+        bringup = TODAY / "bringup.csv"
+        bringup.write_text(bringup.read_text(encoding="utf-8") + "deactivate,Scale,,,\n", encoding="utf-8")
+
+    def test_a_refused_row_of_it(self):
+        status, text, _ = plan("check", TODAY)
+        self.assertEqual(status, 1)
+        self.assertIn("Bring-up: 8 moves, 1 refused (row 9 of bringup.csv).\n", text)
+        self.assertIn("bringup.csv, row 9 (move 8)  refused 20  deactivate card Scale\n", text)
+        self.assertIn("See: tools/plan explain examples/today bringup:9\n", text)
+        self.assertIn("row  2 (move  9)  accepted    create partition Test bench\n", text)
+        self.assertNotIn("activate card Diverter", text)
+        self.assertIn("11 moves: 8 accepted, 3 refused (rows 4, 5, 6).\n", text)
+
+    def test_explained(self):
+        status, text, _ = plan("explain", TODAY, "bringup:9")
+        self.assertEqual(status, 0)
+        self.assertTrue(text.startswith("Row 9 of bringup.csv (move 8): deactivate card Scale\nRefused by question 20"))
+        self.assertIn("Row 4 (move 11): deactivate card Scale\n", plan("explain", TODAY, 4)[1])
+        self.assertEqual(plan("explain", TODAY, "bringup:10")[2],
+                         "plan: bringup.csv has no move in row 10; moves are in rows 2 to 9\n")
+        self.assertEqual(plan("explain", TODAY, "visitor:4")[0], 2)
+
+    def test_answers(self):
+        self.assertEqual(plan("csv", TODAY)[0], 0)
+        rows = (TODAY / "answers.csv").read_text(encoding="utf-8").splitlines()
+        self.assertEqual(len(rows), 1 + 11 + 1)
+        self.assertTrue(rows[1].startswith("2,9,create,,Test bench,,0,accepted,,"), rows[1])
+        self.assertTrue(rows[-1].startswith("bringup.csv 9,8,deactivate,Scale,,,20,refused,"), rows[-1])
+
+    def test_faults_of_both_tables_at_once(self):
+        for name in ("bringup.csv", "visit.csv"):
+            text = (TODAY / name).read_text(encoding="utf-8")
+            (TODAY / name).write_text(text.replace("Scale,", "Skale,", 1), encoding="utf-8")
+        self.assertEqual(plan("check", TODAY), (3, "", (
+            "plan: bringup.csv, row 6, column who: there is no driver or card called 'Skale'; did you mean 'Scale'?\n"
+            "plan: visit.csv, row 4, column who: there is no driver or card called 'Skale'; did you mean 'Scale'?\n")))
+
+    def test_one_session(self):
+        judged = judge_folder(PROGRAM, TODAY)
+        self.assertEqual((judged.first, len(judged.visit), len(judged.steps)), (8, 11, 19))
+        self.assertEqual(judged.session, pack.session_bytes([step.move for step in judged.steps]))
+
+
+if __name__ == "__main__":
+    unittest.main()

@@ -1,0 +1,199 @@
+"""A bring-up: moves by which a fresh state becomes a given one. It judges nothing; the program judges the moves.
+
+First what is in no partition and still holds something: it is brought in with all that its contents lead to, written,
+and taken out. Then what is in partitions: brought in with everything cleared, and written by a driver that is there,
+or, where none is, by one that comes for it and leaves. In between, descriptors are cleared or hold what they are to
+hold, so that no chain comes about that the given state has not.
+"""
+from . import wording as w
+from .book import NONE, follow, fresh
+from .closure import Closure
+from .visit import Item, Move
+
+CREATE, DESTROY = (min(codes) for codes in (w.CREATES, w.DESTROYS))
+FIRST_ROW = 2
+PASSING = "in passing"
+NO_DRIVER = "the line has no driver, so that nothing can be written"
+
+
+def code_for(verb, owner_class):
+    return next(code.number for code in w.CODES.values() if (code.verb, code.actor) == (verb, owner_class))
+
+
+class BringUp:
+    """The moves so far, the state that they make if all are accepted, and why not all can be brought about."""
+
+    def __init__(self, config, goal):
+        self.config, self.goal = config, goal
+        self.now, self.moves, self.notes, self.lost = fresh(config), [], [], []
+        self.holders = [(w.DEVICE, n) for n in config.devices] + \
+            [(w.EXTERNAL, n) for n in config.owned(w.EXTERNAL, 0)] + [(w.DRIVER, n) for n in config.drivers]
+
+    def add(self, code, who=0, where=0, what=(), note=""):
+        move = Move(len(self.moves) + FIRST_ROW, code, who, where, tuple(what), True)
+        self.moves.append(move)
+        self.notes.append(note)
+        self.now = follow(self.config, self.now, move)
+
+    def place(self, state, holder):
+        """The partition of a driver, a card or an external object."""
+        return state.objects[holder[1]] if holder[0] == w.EXTERNAL else state.actor(*holder)
+
+    def objects(self, holder):
+        return [holder[1]] if holder[0] == w.EXTERNAL else self.config.owned(*holder)
+
+    def filled(self, holder):
+        """What is to be written: objects that do not hold yet what they are to hold."""
+        return [n for n in self.objects(holder) if self.goal.contents[n] != self.now.contents[n]]
+
+    def enter(self, holder, where, note=""):
+        what = [holder[1]] if holder[0] == w.EXTERNAL else ()
+        self.add(code_for("activate", holder[0]), 0 if what else holder[1], where, what, note)
+
+    def leave(self, holder):
+        what = [holder[1]] if holder[0] == w.EXTERNAL else ()
+        where = self.place(self.now, holder) if what else 0
+        self.add(code_for("deactivate", holder[0]), 0 if what else holder[1], where, what, PASSING)
+
+    def bring(self, holders, where, note=""):
+        """Brings in those that are not yet there; what is elsewhere is taken out first. External ones go together."""
+        for holder in holders:
+            if self.place(self.now, holder) not in (NONE, where):
+                self.leave(holder)
+        absent = [holder for holder in holders if self.place(self.now, holder) == NONE]
+        for holder in absent:
+            if holder[0] != w.EXTERNAL:
+                self.enter(holder, where, note)
+        loose, most = [n for owner_class, n in absent if owner_class == w.EXTERNAL], w.LIMITS["items of a move"]
+        for at in range(0, len(loose), most):
+            self.add(code_for("activate", w.EXTERNAL), 0, where, loose[at:at + most], note)
+
+    def write(self, driver, numbers, note=""):
+        """Has a driver write what objects are to hold."""
+        most, items = w.LIMITS["items of a move"], []
+        for n in numbers:
+            content = self.goal.contents[n]
+            transfer = self.config.is_descriptor(n)
+            items.append(Item(n, w.VALUE_FORM, content) if transfer else Item(n, w.RAW_FORM, raw=content))
+        for at in range(0, len(items), most):
+            self.add(code_for("write", w.DRIVER), driver, 0, items[at:at + most], note)
+
+    def drivers_in(self, state, where):
+        return [n for n, place in state.drivers.items() if place == where]
+
+
+def bring_up(config, goal):
+    """The bring-up to a state."""
+    made = BringUp(config, goal)
+    for number in sorted(goal.created):
+        made.add(CREATE, where=number)
+    kept = [holder for holder in made.holders if made.place(goal, holder) == NONE and made.filled(holder)]
+    room = passing_room(made)
+    for holder in in_order(made, [holder for holder in kept if holder[0] != w.DRIVER], room):
+        keep(made, holder, room)
+    for number in goal.existing():
+        if not made.drivers_in(goal, number):
+            fill_without_driver(made, number)
+    for holder in kept:
+        if holder[0] == w.DRIVER and made.filled(holder):
+            keep(made, holder, room)
+    for number in sorted(goal.destroyed):
+        empty_out(made, number)
+        made.add(DESTROY, where=number)
+    for number in goal.existing():
+        fill(made, number)
+    return made
+
+
+def passing_room(made):
+    """A partition for what is brought in and taken out again; one with a driver if there is any. NONE if none is."""
+    there = sorted(made.goal.created, key=lambda n: (not made.drivers_in(made.goal, n), n in made.goal.destroyed, n))
+    return there[0] if there else NONE
+
+
+def named_with(made, holder, room):
+    """The holder and all that its contents lead to: what must be in its partition while it holds them."""
+    config, inside, before = made.config, [holder], 0
+    while len(inside) > before:
+        before = len(inside)
+        state = fresh(config)
+        for one in inside:
+            state = follow(config, state, Move(0, code_for("activate", one[0]), one[1], room,
+                                               (one[1],) if one[0] == w.EXTERNAL else ()))
+        state.contents.update({n: made.goal.contents[n] for n in made.objects(holder)})
+        for _, _, value in Closure(config, state).reads:
+            for entry in config.entries(value):
+                one = config.objects[entry.object]
+                owner = (w.EXTERNAL, entry.object) if one.owner_class == w.EXTERNAL else (one.owner_class, one.owner)
+                inside += [owner] if owner not in inside else []
+    return inside
+
+
+def in_order(made, kept, room):
+    """Whoever leads to another one's objects leaves before it."""
+    needs = {holder: named_with(made, holder, room) for holder in kept}
+    order = []
+    while needs:
+        free = [one for one in needs if all(one not in named for other, named in needs.items() if other != one)]
+        order.append((free or list(needs))[0])
+        del needs[order[-1]]
+    return order
+
+
+def keep(made, holder, room):
+    """Has something that is in no partition hold what it kept when it left."""
+    driver = holder if holder[0] == w.DRIVER else next(((w.DRIVER, n) for n in made.config.drivers), None)
+    if room == NONE or driver is None:
+        made.lost.append("no partition was ever used" if room == NONE else NO_DRIVER)
+        return
+    there = made.drivers_in(made.now, room)
+    if there and holder[0] != w.DRIVER:
+        driver = (w.DRIVER, there[0])
+    made.bring(dict.fromkeys([driver, *named_with(made, holder, room)]), room, PASSING)
+    made.write(driver[1], made.filled(holder), "what it kept when it left")
+    made.leave(holder)
+
+
+def inhabitants(made, number):
+    """Who is to be in a partition, drivers first."""
+    ranks = {w.DRIVER: 0, w.DEVICE: 1, w.EXTERNAL: 2}
+    inside = [holder for holder in made.holders if made.place(made.goal, holder) == number]
+    return sorted(inside, key=lambda holder: (ranks[holder[0]], holder[1]))
+
+
+def empty_out(made, number):
+    """Takes out what was in a partition only in passing."""
+    for holder in made.holders:
+        if made.place(made.now, holder) == number and made.place(made.goal, holder) != number:
+            made.leave(holder)
+
+
+def contents_of(made, number):
+    """What the inhabitants of a partition do not hold yet, descriptors last: what they lead to is there by then."""
+    there = [n for holder in inhabitants(made, number) for n in made.filled(holder)]
+    return sorted(there, key=made.config.is_descriptor)
+
+
+def fill(made, number):
+    """Brings in all inhabitants, and has one of the drivers write what they hold."""
+    empty_out(made, number)
+    made.bring(inhabitants(made, number), number)
+    there = made.drivers_in(made.now, number)
+    if there:
+        made.write(there[0], contents_of(made, number))
+
+
+def fill_without_driver(made, number):
+    """Has a driver come for what the inhabitants hold, and leave again."""
+    empty_out(made, number)
+    made.bring(inhabitants(made, number), number)
+    wanted = contents_of(made, number)
+    if not wanted:
+        return
+    waiting = sorted(made.config.drivers, key=lambda n: made.goal.drivers[n] == NONE)
+    if not waiting:
+        made.lost.append(NO_DRIVER)
+        return
+    made.bring([(w.DRIVER, waiting[0])], number, PASSING)
+    made.write(waiting[0], wanted)
+    made.leave((w.DRIVER, waiting[0]))
