@@ -14,6 +14,8 @@ from .sheet import encode
 from .table import TableError, TableErrors
 from .tables import write_tables
 from .terminal import complain, finish, prepare, say
+from .timeline import COLUMNS as TIMELINE_COLUMNS
+from .timeline import not_back, timeline_rows
 from .visit import VISIT
 
 DONE, REFUSED, USAGE, TABLES, PROGRAM, UNEXPLAINED = range(6)
@@ -75,6 +77,7 @@ def parser():
             ("check", run_check, ("DIR",), "make line.bin and session.bin and judge every move"),
             ("explain", run_explain, ("DIR", "SPOT"), "say why a row is refused, for 19 and 20 link by link"),
             ("picture", run_picture, ("DIR", "[ROW]"), "draw the partitions after the visit, or at a row"),
+            ("timeline", run_timeline, ("DIR",), "write timeline.csv: which card is where, from which row to which"),
             ("csv", run_csv, ("DIR",), "write the answers as answers.csv, to paste beside the plan"),
             ("import", run_import, ("LINE", "[DIR]"), "make tables from a line.bin, and from a session.bin beside it")):
         command = commands.add_parser(name, help=text, description=text)
@@ -154,6 +157,16 @@ def run_picture(options):
     name = "picture.svg" if step is None else f"picture-row-{options.row}.svg"
     disk.put(options.dir, {name: draw_plan(plan, step).encode()})
     say([f"Drawn: {options.dir / name}"])
+    return DONE
+
+
+def run_timeline(options):
+    plan = load(options)
+    if not judged(plan):
+        return REFUSED
+    name = "timeline.csv"
+    disk.put(options.dir, {name: encode([TIMELINE_COLUMNS] + timeline_rows(plan), plan.table.form)})
+    say([f"Written: {options.dir / name}"] + [f"Not back: {text}." for text in not_back(plan)])
     return DONE
 
 
