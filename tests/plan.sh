@@ -1,7 +1,7 @@
 #!/usr/bin/env bash
-# The planner's tool: compiled with warnings as errors, then tested with the answers of the office program. With names,
-# as in `bash tests/plan.sh test_chains`, only these tests. `bash tests/plan.sh --write` stores what is made as what is
-# expected; that is no test, and nothing else does it.
+# The planner's tool: compiled with warnings as errors, then tested with the answers of the office program, and its page
+# in a browser (tests/browser.sh). With names, as in `bash tests/plan.sh test_chains`, only these tests.
+# `bash tests/plan.sh --write` stores what is made as what is expected; that is no test, and nothing else does it.
 set -euo pipefail
 cd "$(dirname "$0")/.."
 out=$(mktemp -d)
@@ -9,5 +9,6 @@ trap 'rm -rf "$out"' EXIT
 # The program that is tried is the repository's own.
 unset KOLLUWAR_OFFICE
 export PYTHONPYCACHEPREFIX="$out" PYTHONPATH="$PWD/tools:$PWD/tests:$PWD/tests/plan"
-python3 -W error -m compileall -q tools/planner tests/plan
+python3 -W error -m compileall -q tools/planner tests/plan tests/browser
 python3 -W error tests/plan/run.py "$@"
+[ $# -gt 0 ] || bash tests/browser.sh

@@ -6,7 +6,7 @@ from common import ROOT
 
 COLUMNS, FUNCTION_LINES, MODULE_LINES = 120, 40, 400
 FILES = [ROOT / "tools" / "plan", ROOT / "tools" / "office", *sorted((ROOT / "tools" / "planner").glob("*.py")),
-         *sorted((ROOT / "tests" / "plan").glob("*.py"))]
+         *sorted((ROOT / "tests" / "plan").glob("*.py")), *sorted((ROOT / "tests" / "browser").glob("*.py"))]
 
 
 def imported(tree):

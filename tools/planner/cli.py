@@ -8,6 +8,7 @@ from .arguments import Parser, add_argument
 from .chain import BrokenChain
 from .config import Config
 from .judged import judge_folder
+from .page import page_html
 from .picture import draw_plan
 from .report import ANSWER_COLUMNS, answer_rows, check_lines, explain_lines, refused_whole
 from .sheet import encode
@@ -77,6 +78,7 @@ def parser():
             ("check", run_check, ("DIR",), "make line.bin and session.bin and judge every move"),
             ("explain", run_explain, ("DIR", "SPOT"), "say why a row is refused, for 19 and 20 link by link"),
             ("picture", run_picture, ("DIR", "[ROW]"), "draw the partitions after the visit, or at a row"),
+            ("page", run_page, ("DIR",), "write page.html, on which the plan can be walked through in a browser"),
             ("timeline", run_timeline, ("DIR",), "write timeline.csv: which card is where, from which row to which"),
             ("csv", run_csv, ("DIR",), "write the answers as answers.csv, to paste beside the plan"),
             ("import", run_import, ("LINE", "[DIR]"), "make tables from a line.bin, and from a session.bin beside it")):
@@ -157,6 +159,16 @@ def run_picture(options):
     name = "picture.svg" if step is None else f"picture-row-{options.row}.svg"
     disk.put(options.dir, {name: draw_plan(plan, step).encode()})
     say([f"Drawn: {options.dir / name}"])
+    return DONE
+
+
+def run_page(options):
+    plan = load(options)
+    if not judged(plan):
+        return REFUSED
+    name = "page.html"
+    disk.put(options.dir, {name: page_html(plan, f"Plan {options.dir.resolve().name}").encode()})
+    say([f"Written: {options.dir / name}"])
     return DONE
 
 

@@ -1,0 +1,233 @@
+"""A plan is walked through in a browser as a planner does it: slider, keys, clicks, chains, and print."""
+import subprocess
+import tempfile
+import time
+import unittest
+from pathlib import Path
+
+import sorters
+from common import PROGRAM, ROOT
+from devtools import Browser
+from planner import wording as w
+from planner.judged import judge_folder, judge_moves
+from planner.page import page_html
+from planner.page_data import contents, stops
+from planner.picture import shown_state
+from planner.visit import move_words
+
+# What stands where on the page, read from what is shown.
+SHOWN = """(() => {
+  const places = {};
+  for (const part of document.querySelectorAll(".partition"))
+    for (const row of part.querySelectorAll(".object"))
+      places[row.querySelector(".name").textContent] = [part.querySelector("h3 span").textContent,
+        row.querySelector(".held").firstChild.textContent];
+  return places;
+})()"""
+LIT = "[...document.querySelectorAll('.object.{}')].map((one) => Number(one.dataset.object)).sort((a, b) => a - b)"
+ARROWS = "[...document.querySelectorAll('.arrow.chosen')].map((one) => one.dataset.link)"
+CHOSEN = "document.querySelector('.stop.chosen').id"
+
+
+def plans():
+    """Plans on lines of 5, 40 and 96 objects, and the example, each with a name."""
+    config, moves = sorters.small()
+    yield "small", judge_moves(PROGRAM, config, moves)
+    for name, size in (("middle", dict(cards=7, loose=2)), ("large", dict(cards=16, loose=8, drivers=8))):
+        made = sorters.visit(**size)
+        yield name, judge_moves(PROGRAM, made.config, made.rows())
+    yield "example", judge_folder(PROGRAM, ROOT / "examples" / "visit")
+
+
+class Walk(unittest.TestCase):
+    @classmethod
+    def setUpClass(cls):
+        passing = tempfile.TemporaryDirectory()
+        cls.addClassCleanup(passing.cleanup)
+        cls.folder, cls.plans = Path(passing.name), dict(plans())
+        for name, plan in cls.plans.items():
+            (cls.folder / f"{name}.html").write_text(page_html(plan, f"Plan {name}"), encoding="utf-8")
+        cls.browser = Browser()
+        cls.addClassCleanup(cls.browser.close)
+
+    def setUp(self):
+        self.browser.faults.clear()
+
+    def tearDown(self):
+        self.browser.value("0")
+        self.assertEqual(self.browser.faults, [])
+
+    def open(self, name, key="", **size):
+        self.browser.open((self.folder / f"{name}.html").as_uri() + (f"#{key}" if key else ""), **size)
+
+    def at(self, row):
+        """A link is followed a moment after the click."""
+        end = time.monotonic() + 2
+        while self.browser.value(CHOSEN) != f"row-{row}" and time.monotonic() < end:
+            time.sleep(0.02)
+        self.assertEqual(self.browser.value(CHOSEN), f"row-{row}")
+
+    def test_sizes(self):
+        sizes = {name: len(plan.config.objects) for name, plan in self.plans.items()}
+        self.assertEqual((sizes["small"], sizes["middle"], sizes["large"]), (5, 40, 96))
+
+    def test_every_state(self):
+        """With the arrow key from the first stop to the last: each object is shown where it is, with what it holds."""
+        for name, plan in self.plans.items():
+            self.open(name, "start")
+            if self.browser.value("document.getElementById('fold').checked"):
+                self.browser.click("#fold")
+            for place, step in enumerate(stops(plan)):
+                self.assertEqual(self.browser.value("document.getElementById('slider').value"), str(place))
+                self.shown_as_it_is(plan, step, f"{name}, stop {place}")
+                self.browser.press("ArrowRight")
+
+    def shown_as_it_is(self, plan, step, where):
+        config, state = plan.config, shown_state(plan, step) if step else plan.visit[0].before
+        wanted = {config.object(n): [config.partition(state.objects[n]) if state.objects[n] else "In no partition",
+                                     contents(config, n, state)] for n in config.objects}
+        self.assertEqual(self.browser.value(SHOWN), wanted, where)
+        if step and step.accepted:
+            changed = {n for n in config.objects if step.after.contents[n] != step.before.contents[n]}
+            lit = set(self.browser.value(LIT.format("changed")))
+            self.assertLessEqual(changed, lit, where)
+            self.assertLessEqual(lit, changed | set(step.move.named()), where)
+            self.assertEqual(self.browser.value(LIT.format("failed")), [], where)
+        elif step:
+            things = [thing for finding in plan.findings(step) for thing in finding.things]
+            wanted = sorted({number for sort, number in things if sort == "object"})
+            self.assertEqual(self.browser.value(LIT.format("failed")), wanted, where)
+            self.assertEqual(self.browser.value(LIT.format("changed")), [], where)
+
+    def test_keys(self):
+        self.open("example", "row-5")
+        self.at(5)
+        for key, row in (("ArrowRight", 6), ("ArrowDown", 7), ("ArrowLeft", 6), ("ArrowUp", 5), ("PageDown", 15),
+                         ("PageUp", 5), ("End", 23), ("p", 18), ("p", 17), ("n", 18)):
+            self.browser.press(key)
+            self.at(row)
+        self.browser.press("Home")
+        self.assertEqual(self.browser.value(CHOSEN), "start")
+        self.browser.press("ArrowLeft")
+        self.assertEqual(self.browser.value(CHOSEN), "start")
+
+    def test_keys_with_the_focus_in_the_list_and_on_the_slider(self):
+        """The focus goes along in the list; on the slider the keys go the same way, and it says where it is."""
+        self.open("example", "row-5")
+        self.browser.value("document.querySelector('.stop.chosen .pick').focus()")
+        self.browser.press("ArrowDown")
+        self.assertEqual(self.browser.value("document.activeElement.closest('.stop').id"), "row-6")
+        self.browser.value("document.getElementById('slider').focus()")
+        self.browser.press("ArrowDown")
+        self.at(7)
+        said = self.browser.value("document.getElementById('slider').getAttribute('aria-valuetext')")
+        self.assertEqual(said, "Row 7, activate card Scanner in Live loop, accepted")
+        self.assertEqual(self.browser.value("document.querySelector('[aria-current]').closest('.stop').id"), "row-7")
+
+    def test_slider_and_clicks(self):
+        self.open("example")
+        self.at(11)
+        self.browser.click("#slider", 0.999)
+        self.at(23)
+        self.browser.click("#row-17 .pick")
+        self.at(17)
+        self.assertEqual(self.browser.value("location.hash"), "#row-17")
+        self.browser.click("#on")
+        self.at(18)
+        self.browser.click(".summary a")
+        self.at(11)
+        self.browser.click(".bar.tint2")
+        self.at(14)
+
+    def test_chains_link_by_link(self):
+        for name, plan in self.plans.items():
+            for step in plan.steps:
+                if step.answer in (w.OUTSIDE, w.IN_REACH):
+                    self.chain_is_shown(name, plan, step)
+
+    def chain_is_shown(self, name, plan, step):
+        """Each link is named in words, and its two rows and its arrow are lit."""
+        links = plan.explained(step)[0].chain
+        self.open(name, f"row-{step.move.row}")
+        visible = "[...document.querySelectorAll('.link')].filter((one) => one.offsetHeight).length"
+        self.assertEqual(self.browser.value(visible), len(links))
+        self.assertEqual(self.browser.value("document.querySelectorAll('.arrow').length"),
+                         sum(link.kind != "wired" for link in links))
+        for place, link in enumerate(links):
+            self.browser.press("ArrowDown", shift=True)
+            rows = sorted({link.descriptor, link.to} - {0})
+            self.assertEqual(self.browser.value(LIT.format("chosen")), rows, f"{name}, link {place + 1}")
+            self.assertEqual(self.browser.value(ARROWS), [] if link.kind == "wired" else [str(place)])
+            said = self.browser.value("document.getElementById('live').textContent")
+            self.assertIn(plan.config.object(link.to or link.descriptor), said)
+            self.assertEqual(said, self.browser.value("document.querySelector('.link[aria-pressed=true]').textContent"))
+        self.assertEqual(self.browser.value("location.hash"), f"#row-{step.move.row}-link-{len(links)}")
+        self.browser.press("Escape")
+        self.assertEqual(self.browser.value(LIT.format("chosen")), [])
+
+    def test_folding(self):
+        """A large line shows what matters, and all of it if wanted; a card by itself, too."""
+        self.open("large", "row-40")
+        few = self.browser.value("document.querySelectorAll('.object').length")
+        self.assertLess(few, 12)
+        self.browser.click("#owner-card-9")
+        self.assertEqual(self.browser.value("document.querySelectorAll('.object').length"), few + 5)
+        self.browser.click("#fold")
+        self.assertEqual(self.browser.value("document.querySelectorAll('.object').length"), 96)
+
+    def test_nothing_sticks_out(self):
+        """At the width of a desk and of a telephone nothing is wider than the page, with all objects shown."""
+        for name in self.plans:
+            for width in (1280, 390):
+                self.open(name, "row-4", width=width)
+                self.browser.value("document.getElementById('fold').checked && document.getElementById('fold').click()")
+                wide = "Math.max(...[...document.querySelectorAll('body *')].filter((one) => !one.closest('.arrows, " \
+                       ".hidden')).map((one) => one.getBoundingClientRect().right))"
+                self.assertLessEqual(self.browser.value(wide), width + 1, f"{name} at {width}")
+
+    def test_themes(self):
+        """Text is well set off from its ground in both themes: at least 4.5 to 1, as the guidelines have it."""
+        self.open("example", "row-17")
+        for _ in range(2):
+            for one in (".row", ".verdict", ".said", ".held.none", ".note.fault", ".question", ".fingerprint", ".link"):
+                self.assertGreaterEqual(self.contrast(one), 4.5, one)
+            self.browser.click("#theme")
+
+    def contrast(self, selector):
+        """The contrast of an element's text with the first ground behind it that is not transparent."""
+        colours = self.browser.value(f"""(() => {{
+          let one = document.querySelector('.chosen {selector}, #state {selector}, header {selector}');
+          const ink = getComputedStyle(one).color;
+          const ground = () => getComputedStyle(one).backgroundColor;
+          while (ground() === 'rgba(0, 0, 0, 0)' && one.parentElement) one = one.parentElement;
+          return [ink, ground()].map((text) => text.match(/\\d+/g).slice(0, 3).map(Number));
+        }})()""")
+
+        def light(colour):
+            parts = [c / 255 for c in colour]
+            parts = [c / 12.92 if c <= 0.04045 else ((c + 0.055) / 1.055) ** 2.4 for c in parts]
+            return 0.2126 * parts[0] + 0.7152 * parts[1] + 0.0722 * parts[2]
+
+        low, high = sorted(map(light, colours))
+        return (high + 0.05) / (low + 0.05)
+
+    def test_print(self):
+        """All moves, what the refused ones failed on, their chains, and the fingerprint are on the paper."""
+        for name, plan in self.plans.items():
+            self.open(name)
+            (self.folder / "page.pdf").write_bytes(self.browser.printed())
+            text = subprocess.run(["pdftotext", "-raw", self.folder / "page.pdf", "-"], capture_output=True, text=True,
+                                  check=True).stdout
+            flat = "".join(text.split())
+            for step in plan.steps:
+                words = f"Row {step.move.row} {move_words(plan.config, step.move)}"
+                self.assertIn("".join(words.split()), flat, name)
+                for finding in plan.findings(step):
+                    self.assertIn("".join(finding.text[1:].split()), flat, name)
+            links = sum(len(finding.chain) for step in plan.steps for finding in plan.findings(step))
+            self.assertEqual(flat.count("hasanentry") + flat.count("readsitshard-wireddescriptor"), links, name)
+            self.assertIn("line.bin", flat)
+
+
+if __name__ == "__main__":
+    unittest.main()
