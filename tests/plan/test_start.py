@@ -6,10 +6,12 @@ from pathlib import Path
 from common import PROGRAM, ROOT, InFolder, plan
 from lines import random_line, random_visit
 from planner import pack
+from planner import wording as w
 from planner.area import AREA_BYTES, CARDS_AT, DRIVERS_AT, MARK, OBJECTS_AT, RECORD, area_bytes, digest, read_area
+from planner.config import Config, Device, Entry, Object, Value
 from planner.judged import judge_folder, judge_moves
 from planner.start import bring_up
-from planner.visit import Move
+from planner.visit import Item, Move
 
 TODAY = Path("examples/today")
 # A byte of the example's area, what it is set to, and what is said of it.
@@ -40,6 +42,19 @@ class BringUps(unittest.TestCase):
         judged = judge_folder(PROGRAM, ROOT / "examples" / "visit")
         for step in judged.steps:
             self.assertTrue(comes_back(judged.config, step.after), step.move.row)
+
+    def test_who_leads_to_another_leaves_before_it(self):
+        """Card 2 left with a value that names what card 1 holds, and then card 1 left."""
+        config = Config({1: "D1"}, {1: Device("C1", 1), 2: Device("C2", 2)}, {
+            1: Object("O1", w.HARDCODED, w.DEVICE, 1), 2: Object("O2", w.DATA, w.DEVICE, 1),
+            3: Object("O3", w.HARDCODED, w.DEVICE, 2), 4: Object("O4", w.TRANSFER, w.DEVICE, 2)}, {
+            1: Value("V1", ()), 2: Value("V2", (Entry(4, w.READ, 0),)), 3: Value("V3", (Entry(2, w.READ, 0),))})
+        fill = (Item(2, w.RAW_FORM, raw=b"x" * 16), Item(4, w.VALUE_FORM, 3))
+        moves = [Move(2, 5, where=1), Move(3, 7, 1, 1), Move(4, 8, 1, 1), Move(5, 8, 2, 1), Move(6, 1, 1, what=fill),
+                 Move(7, 11, 2), Move(8, 11, 1)]
+        judged = judge_moves(PROGRAM, config, moves)
+        self.assertTrue(judged.verdict.accepted)
+        self.assertTrue(comes_back(config, judged.last_state()))
 
     def test_states_of_random_sessions(self):
         """With partitions without a driver, destroyed ones, and things that left and kept what they held."""

@@ -2,6 +2,7 @@
 import argparse
 from pathlib import Path
 
+from .repair import MOST
 from .terminal import say, visible
 from .visit import BRINGUP, VISIT
 
@@ -31,6 +32,8 @@ WORDS = {
     "SPOT": (spot_of, "ROW", f"{ROW_HELP}, or bringup:4 for one of bringup.csv"),
 }
 FLAGS = {
+    "--write": dict(type=int, metavar="N", help="put the change of this number into visit.csv"),
+    "--most": dict(type=int, metavar="N", default=MOST, help=f"so many changes at most for a row (else {MOST})"),
     "--replace": dict(action="store_true", help="a bringup.csv that is there is replaced"),
 }
 

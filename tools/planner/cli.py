@@ -2,7 +2,7 @@
 import argparse
 import shlex
 
-from . import disk, files, office, starting, unpack
+from . import disk, files, office, repairs, starting, unpack
 from . import wording as w
 from .arguments import Parser, add_argument
 from .chain import BrokenChain
@@ -10,6 +10,7 @@ from .config import Config
 from .judged import judge_folder
 from .page import page_html
 from .picture import draw_plan
+from .repair import Search
 from .report import ANSWER_COLUMNS, answer_rows, check_lines, explain_lines, refused_whole
 from .sheet import encode
 from .table import TableError, TableErrors
@@ -77,6 +78,8 @@ def parser():
             ("start", run_start, ("DIR", "AREA", "--replace"), "make bringup.csv from a state area of a controller"),
             ("check", run_check, ("DIR",), "make line.bin and session.bin and judge every move"),
             ("explain", run_explain, ("DIR", "SPOT"), "say why a row is refused, for 19 and 20 link by link"),
+            ("repair", run_repair, ("DIR", "[ROW]", "--write", "--most"),
+             "find small changes after which a row is accepted"),
             ("picture", run_picture, ("DIR", "[ROW]"), "draw the partitions after the visit, or at a row"),
             ("page", run_page, ("DIR",), "write page.html, on which the plan can be walked through in a browser"),
             ("timeline", run_timeline, ("DIR",), "write timeline.csv: which card is where, from which row to which"),
@@ -148,6 +151,42 @@ def run_explain(options):
     if not judged(plan):
         return REFUSED
     say(explain_lines(plan, step_at(plan, *options.spot)))
+    return DONE
+
+
+def run_repair(options):
+    """The repairs of a row, or of each that is refused; with --write one of them goes into visit.csv."""
+    program, plan = office.find_office(options.office), load(options)
+    if not judged(plan):
+        return REFUSED
+    if options.row is not None and step_at(plan, options.row).accepted:
+        raise UsageError(f"row {options.row} is accepted; there is nothing to repair")
+    number = 0
+    for step in repairs.refused_steps(plan, options.row):
+        bar = repairs.Bar(f"row {step.move.row}")
+        search = Search(program, plan, step, bar, max(options.most, 1))
+        try:
+            found = search.find()
+        finally:
+            bar.close()
+        chosen = None if options.write is None else options.write - number
+        if chosen is not None and 0 < chosen <= len(found):
+            return write_repair(options, plan, found[chosen - 1].change)
+        if chosen is None:
+            say(repairs.row_lines(plan, step, found, number, search.tried))
+        number += len(found)
+    if options.write is not None:
+        raise UsageError(f"there is no change {options.write}; {number} were found")
+    say(repairs.last_lines(plan, number, f"{options.tool} repair {shlex.quote(str(options.dir))}", options.row))
+    return DONE
+
+
+def write_repair(options, plan, change):
+    """visit.csv with a change; the table as it was stays beside it."""
+    before = f"{VISIT.removesuffix('.csv')}.before.csv"
+    made = encode(repairs.changed_lines(plan, change), plan.table.form)
+    disk.put(options.dir, {before: disk.read(options.dir / VISIT), VISIT: made})
+    say([f"Written: {options.dir / VISIT}: {'; then '.join(change.texts)}", f"As it was: {options.dir / before}"])
     return DONE
 
 

@@ -68,10 +68,15 @@ class Row:
 
 @dataclass(frozen=True)
 class Table:
-    """A table's rows without blank ones, the number of its last row, and the form in which it was saved."""
+    """A table's rows without blank ones, the number of its last row, the form in which it was saved, and all cells."""
     rows: list
     last: int
     form: sheet.Form = field(default_factory=sheet.Form)
+    lines: list = field(default_factory=list)
+
+    @property
+    def heading(self):
+        return headings(self.lines[0]) if self.lines else []
 
 
 def read_table(path, columns, optional=False):
@@ -114,7 +119,7 @@ def make_table(name, lines, form, columns):
     rows = [Row(name, number, dict(zip(heading, cells))) for number, cells in enumerate(lines[1:], 2)]
     rows = [row for row in rows if any(row.text(column) for column in columns)]
     gather(rows, lambda row: check_seen(row, columns))
-    return Table(rows, max(len(lines), 1), form)
+    return Table(rows, max(len(lines), 1), form, lines)
 
 
 def check_widths(name, heading, lines):
