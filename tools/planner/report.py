@@ -3,13 +3,14 @@ import re
 import textwrap
 
 from . import wording as w
+from .fingerprint import fingerprint
 from .line_faults import line_findings
 from .reach import chain_sentences
 from .visit import BRINGUP, move_words
 
 WIDTH = 110
 MOVE_COLUMNS = ("operation", "who", "where", "what")
-ANSWER_COLUMNS = ("row", "move") + MOVE_COLUMNS + ("answer", "verdict", "question", "failed on")
+ANSWER_COLUMNS = ("row", "move") + MOVE_COLUMNS + ("answer", "verdict", "question", "failed on", "fingerprint")
 KEPT = "\0"
 
 
@@ -138,21 +139,23 @@ def rests_on(config, step, links):
 def answer_rows(plan):
     """A row for each row of visit.csv below its heading, blank ones too, so that it can be pasted beside the plan.
 
-    Refused rows of the bring-up stand below them.
+    Refused rows of the bring-up stand below them. The first row has the fingerprint of the judged files.
     """
     written = {row.number: row for row in plan.table.rows}
     rows = {step.move.row: answer_row(plan, step, written[step.move.row]) for step in plan.visit}
     blank = ("",) * (len(ANSWER_COLUMNS) - 1)
     made = [rows.get(number, (number,) + blank) for number in range(2, plan.table.last + 1)]
     before = {row.number: row for row in plan.bringup.rows} if plan.failed_bringup else {}
-    return made + [(f"{BRINGUP} {step.move.row}",) + answer_row(plan, step, before[step.move.row])[1:]
-                   for step in plan.failed_bringup]
+    made += [(f"{BRINGUP} {step.move.row}",) + answer_row(plan, step, before[step.move.row])[1:]
+             for step in plan.failed_bringup]
+    made = made or [("",) + blank]
+    return [made[0][:-1] + (fingerprint(plan.line, plan.session),)] + made[1:]
 
 
 def answer_row(plan, step, row):
     """A move as it stands in visit.csv, and its answer."""
     move = (row.number, step.place) + tuple(row.cells.get(column, "") for column in MOVE_COLUMNS) + (step.answer,)
     if step.accepted:
-        return move + ("accepted", "", "")
+        return move + ("accepted", "", "", "")
     failed = "; ".join(finding.text for finding in plan.findings(step))
-    return move + ("refused", w.question(step.answer, step.move.code), failed)
+    return move + ("refused", w.question(step.answer, step.move.code), failed, "")
