@@ -19,6 +19,7 @@ from .terminal import complain, finish, prepare, say
 from .timeline import COLUMNS as TIMELINE_COLUMNS
 from .timeline import not_back, timeline_rows
 from .visit import VISIT
+from .visit_sheet import visit_sheet
 
 DONE, REFUSED, USAGE, TABLES, PROGRAM, UNEXPLAINED = range(6)
 STATUSES = """exit statuses:
@@ -83,6 +84,7 @@ def parser():
             ("picture", run_picture, ("DIR", "[ROW]"), "draw the partitions after the visit, or at a row"),
             ("page", run_page, ("DIR",), "write page.html, on which the plan can be walked through in a browser"),
             ("timeline", run_timeline, ("DIR",), "write timeline.csv: which card is where, from which row to which"),
+            ("sheet", run_sheet, ("DIR",), "write a page to print for the technicians, with a box for each step"),
             ("csv", run_csv, ("DIR",), "write the answers as answers.csv, to paste beside the plan"),
             ("import", run_import, ("LINE", "[DIR]"), "make tables from a line.bin, and from a session.bin beside it")):
         command = commands.add_parser(name, help=text, description=text)
@@ -207,6 +209,16 @@ def run_page(options):
         return REFUSED
     name = "page.html"
     disk.put(options.dir, {name: page_html(plan, f"Plan {options.dir.resolve().name}").encode()})
+    say([f"Written: {options.dir / name}"])
+    return DONE
+
+
+def run_sheet(options):
+    plan = load(options)
+    if not judged(plan):
+        return REFUSED
+    name = "visit-sheet.html"
+    disk.put(options.dir, {name: visit_sheet(plan, options.dir.resolve().name).encode("utf-8", "replace")})
     say([f"Written: {options.dir / name}"])
     return DONE
 
