@@ -7,6 +7,7 @@ blocks, so that no command stands there untried.
 import os
 import re
 import shutil
+import signal
 import subprocess
 import unittest
 from pathlib import Path
@@ -48,8 +49,23 @@ class Manual(InFolder):
         shutil.copytree(ROOT / "examples" / "today", "examples/today")
         self.text = MANUAL.read_text(encoding="utf-8")
 
+    def run_watch(self, line):
+        """What a watch prints till its first words on Ctrl-C, and once it gets one."""
+        tool = subprocess.Popen(["bash", "-c", f"exec {line}"], stdout=subprocess.PIPE, stderr=subprocess.STDOUT,
+                                text=True, env={**os.environ, "KOLLUWAR_OFFICE": str(PROGRAM)},
+                                preexec_fn=lambda: signal.signal(signal.SIGINT, signal.SIG_DFL))
+        printed = ""
+        while "Ctrl-C ends it" not in printed:
+            row = tool.stdout.readline()
+            self.assertTrue(row, printed)
+            printed += row
+        tool.send_signal(signal.SIGINT)
+        return printed + tool.communicate(timeout=60)[0], tool.returncode
+
     def run_command(self, line):
         """What a line of the shell prints, complaints too, and its status."""
+        if line.startswith("tools/plan watch"):
+            return self.run_watch(line)
         done = subprocess.run(["bash", "-c", line], stdout=subprocess.PIPE, stderr=subprocess.STDOUT, text=True,
                               timeout=60, env={**os.environ, "KOLLUWAR_OFFICE": str(PROGRAM)})
         return done.stdout, done.returncode

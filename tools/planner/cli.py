@@ -1,6 +1,7 @@
 """The commands of tools/plan and their exit statuses."""
 import argparse
 import shlex
+import time
 
 from . import disk, files, office, repairs, starting, unpack
 from . import wording as w
@@ -20,6 +21,7 @@ from .timeline import COLUMNS as TIMELINE_COLUMNS
 from .timeline import not_back, timeline_rows
 from .visit import VISIT
 from .visit_sheet import visit_sheet
+from .watch import watch
 
 DONE, REFUSED, USAGE, TABLES, PROGRAM, UNEXPLAINED = range(6)
 STATUSES = """exit statuses:
@@ -50,10 +52,16 @@ def main(arguments, tool="tools/plan"):
 def carry_out(arguments, tool):
     try:
         options = parser().parse_args(arguments)
-        options.tool = tool
-        return options.run(options)
     except SystemExit as stop:
         return stop.code
+    options.tool = tool
+    return attempt(options.run, options)
+
+
+def attempt(run, options):
+    """The status of a command; what is at fault is told."""
+    try:
+        return run(options)
     except (TableError, TableErrors) as fault:
         return fail(TABLES, fault)
     except office.OfficeError as fault:
@@ -85,6 +93,7 @@ def parser():
             ("page", run_page, ("DIR",), "write page.html, on which the plan can be walked through in a browser"),
             ("timeline", run_timeline, ("DIR",), "write timeline.csv: which card is where, from which row to which"),
             ("sheet", run_sheet, ("DIR",), "write a page to print for the technicians, with a box for each step"),
+            ("watch", run_watch, ("DIR",), "check, and write page.html, again whenever a table is saved"),
             ("csv", run_csv, ("DIR",), "write the answers as answers.csv, to paste beside the plan"),
             ("import", run_import, ("LINE", "[DIR]"), "make tables from a line.bin, and from a session.bin beside it")):
         command = commands.add_parser(name, help=text, description=text)
@@ -231,6 +240,21 @@ def run_timeline(options):
     disk.put(options.dir, {name: encode([TIMELINE_COLUMNS] + timeline_rows(plan), plan.table.form)})
     say([f"Written: {options.dir / name}"] + [f"Not back: {text}." for text in not_back(plan)])
     return DONE
+
+
+def run_watch(options):
+    """Each time a table is saved the plan is checked, and if it can be judged its page is made anew."""
+    folder = folder_of(options)
+
+    def act(saved):
+        if saved:
+            say(["", f"{time.strftime('%H:%M:%S')} saved: {', '.join(saved)}"])
+        if attempt(run_check, options) not in (DONE, REFUSED) or attempt(run_page, options) != DONE:
+            complain("page.html is not made anew")
+        say([f"Watching the tables in {folder}; Ctrl-C ends it."])
+        finish()
+
+    watch(folder, act)
 
 
 def run_csv(options):
