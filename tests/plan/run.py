@@ -1,10 +1,13 @@
 """Runs the tests of the planner's tool: run.py [--write] [NAME ..]. Ends with 1 if one fails, or if tests are missing.
 
+Tests that are skipped for want of a library are named; with CI=true in the environment they count as missing.
+
 A NAME is a module, class or test, as test_chains or test_commands.Example.test_check; without one all tests are run,
 and they must be as many as the files have. With --write what is made is stored as what is expected: that is no test,
 and no environment variable has it done.
 """
 import ast
+import os
 import sys
 import unittest
 from pathlib import Path
@@ -12,6 +15,7 @@ from pathlib import Path
 import common
 
 HERE = Path(__file__).resolve().parent
+NO_LIBRARY = "no library"
 
 
 def written_tests():
@@ -27,7 +31,11 @@ def main(words):
     loader = unittest.TestLoader()
     suite = loader.loadTestsFromNames(names) if names else loader.discover(str(HERE))
     result = unittest.TextTestRunner().run(suite)
-    ran, least = result.testsRun - len(result.skipped), 1 if names else max(1, written_tests())
+    # Where a library is not installed its tests may be skipped, but not in the gate.
+    excused = 0 if os.environ.get("CI") == "true" else sum(why.startswith(NO_LIBRARY) for _, why in result.skipped)
+    ran, least = result.testsRun - len(result.skipped), max(1, (0 if names else written_tests()) - excused)
+    for test, why in result.skipped:
+        print(f"plan: skipped {test.id()}: {why}", file=sys.stderr)
     if ran < least:
         print(f"plan: {ran} tests were run, and there must be {least}", file=sys.stderr)
     if common.WRITE:

@@ -34,7 +34,7 @@ WORDS = {
 FLAGS = {
     "--write": dict(type=int, metavar="N", help="put the change of this number into visit.csv"),
     "--most": dict(type=int, metavar="N", default=MOST, help=f"so many changes at most for a row (else {MOST})"),
-    "--replace": dict(action="store_true", help="a bringup.csv that is there is replaced"),
+    "--replace": dict(action="store_true", help="what is there already is replaced"),
 }
 
 

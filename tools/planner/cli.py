@@ -3,9 +3,10 @@ import argparse
 import shlex
 import time
 
-from . import disk, files, office, repairs, starting, unpack
+from . import disk, files, office, repairs, starting, unpack, workbook
 from . import wording as w
 from .arguments import Parser, add_argument
+from .book_plan import book_tables, put_table, store_book
 from .chain import BrokenChain
 from .config import Config
 from .judged import judge_folder
@@ -15,7 +16,7 @@ from .repair import Search
 from .report import ANSWER_COLUMNS, answer_rows, check_lines, explain_lines, refused_whole
 from .sheet import encode
 from .table import TableError, TableErrors
-from .tables import write_tables
+from .tables import put_fresh, write_tables
 from .terminal import complain, finish, prepare, say
 from .timeline import COLUMNS as TIMELINE_COLUMNS
 from .timeline import not_back, timeline_rows
@@ -68,7 +69,7 @@ def attempt(run, options):
         return fail(PROGRAM, fault)
     except BrokenChain as fault:
         return fail(UNEXPLAINED, fault)
-    except (UsageError, starting.AreaError) as fault:
+    except (UsageError, starting.AreaError, workbook.BookError) as fault:
         return fail(USAGE, fault)
 
 
@@ -95,7 +96,10 @@ def parser():
             ("sheet", run_sheet, ("DIR",), "write a page to print for the technicians, with a box for each step"),
             ("watch", run_watch, ("DIR",), "check, and write page.html, again whenever a table is saved"),
             ("csv", run_csv, ("DIR",), "write the answers as answers.csv, to paste beside the plan"),
-            ("import", run_import, ("LINE", "[DIR]"), "make tables from a line.bin, and from a session.bin beside it")):
+            ("workbook", run_workbook, ("DIR", "FILE", "--replace"),
+             "write tables and answers as one .xlsx or .ods file with lists to choose from"),
+            ("import", run_import, ("LINE", "[DIR]"),
+             "make tables from a line.bin and a session.bin beside it, or from a workbook")):
         command = commands.add_parser(name, help=text, description=text)
         for argument in arguments:
             add_argument(command, argument)
@@ -194,10 +198,8 @@ def run_repair(options):
 
 def write_repair(options, plan, change):
     """visit.csv with a change; the table as it was stays beside it."""
-    before = f"{VISIT.removesuffix('.csv')}.before.csv"
-    made = encode(repairs.changed_lines(plan, change), plan.table.form)
-    disk.put(options.dir, {before: disk.read(options.dir / VISIT), VISIT: made})
-    say([f"Written: {options.dir / VISIT}: {'; then '.join(change.texts)}", f"As it was: {options.dir / before}"])
+    made, before = put_table(options.dir, VISIT, repairs.changed_lines(plan, change), plan.table.form, keep=True)
+    say([f"Written: {options.dir / made}: {'; then '.join(change.texts)}", f"As it was: {options.dir / before}"])
     return DONE
 
 
@@ -267,8 +269,27 @@ def run_csv(options):
     return DONE
 
 
+def run_workbook(options):
+    """The tables as one file, with the answers if the program judged the moves."""
+    plan = load(options)
+    names = store_book(options.dir, options.file, plan, options.replace)
+    say([f"Written: {options.file.parent / names[0]}"] + [f"As it was: {options.file.parent / n}" for n in names[1:]])
+    return DONE if judged(plan) else REFUSED
+
+
+def import_book(options):
+    """Tables from a workbook."""
+    folder = options.dir or options.line.parent
+    made = book_tables(options.line)
+    put_fresh(folder, made)
+    say([f"Made in {folder}: {', '.join(made)}"])
+    return DONE
+
+
 def run_import(options):
-    """Tables from a line.bin; a session.bin beside it becomes visit.csv."""
+    """Tables from a line.bin; a session.bin beside it becomes visit.csv. Or tables from a workbook."""
+    if workbook.is_book(options.line):
+        return import_book(options)
     folder, beside = options.dir or options.line.parent, options.line.parent / office.SESSION
     data = disk.read(options.line)
     verdict = office.judge(office.find_office(options.office), data, b"")

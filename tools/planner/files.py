@@ -2,6 +2,7 @@
 from . import disk
 from .office import LINE, SESSION
 from .tables import COLUMNS
+from .workbook import NAMES
 
 
 def clear(folder):
@@ -10,7 +11,7 @@ def clear(folder):
     A folder without any table is no plan, and what is there was given and not made.
     """
     with disk.told("write"):
-        if any((folder / table).exists() for table in COLUMNS):
+        if any((folder / name).exists() for name in (*COLUMNS, *NAMES)):
             for name in (LINE, SESSION):
                 (folder / name).unlink(missing_ok=True)
 

@@ -3,9 +3,9 @@ from dataclasses import dataclass
 
 from . import disk, pack
 from .area import AREA_BYTES, AreaError, area_bytes, differences, read_area, unwrap
+from .book_plan import put_table
 from .judged import Plan, judge_moves
 from .report import plural, refused_whole, sentence, step_lines, wrap
-from .sheet import encode
 from .start import bring_up
 from .table import TableError
 from .tables import COLUMNS, NOTE, open_tables, read_line
@@ -24,10 +24,9 @@ class Started:
 def start(program, folder, path, replace=False):
     """Makes bringup.csv of a folder from a stored area; one that is there stays unless it is to be replaced."""
     line = read_line(folder)
-    form = open_tables(folder, ["objects.csv"])["objects.csv"].form
-    with disk.told("read", folder / BRINGUP):
-        there = (folder / BRINGUP).exists()
-    if there and not replace:
+    tables = open_tables(folder, ["objects.csv", BRINGUP])
+    form = tables["objects.csv"].form
+    if tables[BRINGUP].lines and not replace:
         raise TableError(folder / BRINGUP, None, None, "is already there; nothing was changed (--replace does it)")
     config, data = line.config, disk.read(path)
     try:
@@ -40,7 +39,8 @@ def start(program, folder, path, replace=False):
     last = plan.last_state()
     if not (plan.verdict.too_long or plan.verdict.refused_line):
         rows = [move_cells(config, move) + (note,) for move, note in zip(made.moves, made.notes)]
-        disk.put(folder, {BRINGUP: encode([COLUMNS[BRINGUP] + (NOTE,)] + rows, form)})
+        lines = [[str(cell) for cell in row] for row in [COLUMNS[BRINGUP] + (NOTE,)] + rows]
+        put_table(folder, BRINGUP, lines, form)
     same = plan.verdict.accepted and area_bytes(config, last) == area
     return Started(plan, made.lost, differences(config, goal, last), same)
 

@@ -4,6 +4,7 @@ from dataclasses import dataclass, field
 from pathlib import Path
 
 from . import disk, sheet
+from .workbook import sheet_name
 
 LINE_BLANKS = "\t\r\n"
 
@@ -42,10 +43,11 @@ def hidden(text):
 
 @dataclass(frozen=True)
 class Row:
-    """A row of a table: the file's name, the spreadsheet's row number and the cells by column."""
+    """A row of a table: the file's name, with the sheet's in a workbook, the spreadsheet's row number, the cells."""
     file: str
     number: int
     cells: dict
+    table: str = ""
 
     def text(self, column):
         """The cell with runs of blanks made one; an absent cell is empty."""
@@ -93,7 +95,7 @@ def read_table(path, columns, optional=False):
         lines, form = sheet.split(text, form, lambda heading: len(missing(heading, columns)))
     except sheet.SheetError as fault:
         raise TableError(path.name, fault.row, None, str(fault)) from None
-    return make_table(path.name, lines, form, columns)
+    return make_table(path.name, path.name, lines, form, columns)
 
 
 def headings(cells):
@@ -105,8 +107,19 @@ def missing(heading, columns):
     return [column for column in columns if column not in there]
 
 
-def make_table(name, lines, form, columns):
-    """The table of rows of cells, the first of which is the heading."""
+def read_sheet(book, sheets, table, columns, optional=False):
+    """The table that is a sheet of a workbook."""
+    name = sheet_name(table)
+    place = f"{book.name}, sheet {name}"
+    if name not in sheets:
+        if optional:
+            return Table([], 1)
+        raise TableError(place, None, None, "is not there")
+    return make_table(table, place, sheets[name], sheet.Form(), columns)
+
+
+def make_table(table, name, lines, form, columns):
+    """The table of rows of cells, the first of which is the heading; `name` is what faults call it."""
     heading = headings(lines[0]) if lines else []
     for column in missing(heading, columns):
         tried = ", ".join(sheet.SEPARATORS.values())
@@ -116,7 +129,7 @@ def make_table(name, lines, form, columns):
         if heading.count(column) > 1:
             raise TableError(name, 1, column, "stands in the heading twice")
     check_widths(name, heading, lines)
-    rows = [Row(name, number, dict(zip(heading, cells))) for number, cells in enumerate(lines[1:], 2)]
+    rows = [Row(name, number, dict(zip(heading, cells)), table) for number, cells in enumerate(lines[1:], 2)]
     rows = [row for row in rows if any(row.text(column) for column in columns)]
     gather(rows, lambda row: check_seen(row, columns))
     return Table(rows, max(len(lines), 1), form, lines)

@@ -7,8 +7,9 @@ from . import wording as w
 from .config import Config, Device, Entry, Object, Value
 from .names import Names, key, likely
 from .sheet import Form, encode
-from .table import TableError, TableErrors, gather, read_table
+from .table import TableError, TableErrors, gather, read_sheet, read_table
 from .visit import BRINGUP, VISIT, move_cells
+from .workbook import NAMES, find_book, read_book
 
 COLUMNS = {
     "partitions.csv": ("partition", "number"),
@@ -56,11 +57,14 @@ def read_line(folder):
 
 
 def open_tables(folder, names):
-    """The named tables; what is missing in any of them is told at once."""
+    """The named tables, of the folder's workbook if it has one; what is missing in any of them is told at once."""
     tables, faults = {}, []
+    book = find_book(folder, COLUMNS)
+    sheets = read_book(book) if book else {}
     for name in names:
         try:
-            tables[name] = read_table(Path(folder) / name, COLUMNS[name], name in OPTIONAL)
+            known = COLUMNS[name], name in OPTIONAL
+            tables[name] = read_sheet(book, sheets, name, *known) if book else read_table(Path(folder) / name, *known)
         except TableError as fault:
             faults.append(fault)
     if faults:
@@ -186,13 +190,19 @@ def table_rows(config, moves):
 
 def write_tables(folder, config, moves=()):
     """Writes all tables but the bring-up into a folder, each with a column for notes; none may be there already."""
-    folder, made = Path(folder), table_rows(config, moves)
+    made = {name: encode([COLUMNS[name] + (NOTE,)] + [tuple(row) + ("",) for row in rows], Form())
+            for name, rows in table_rows(config, moves).items()}
+    put_fresh(folder, made)
+    return list(made)
+
+
+def put_fresh(folder, made):
+    """Puts tables down by name; neither one of them nor a workbook may be there already."""
+    folder = Path(folder)
     with disk.told("write"):
-        there = [name for name in made if (folder / name).exists()]
+        there = [name for name in (*made, *NAMES) if (folder / name).exists()]
     if there:
         raise TableError(folder / there[0], None, None, "is already there; nothing was changed")
     with disk.told("write"):
         folder.mkdir(parents=True, exist_ok=True)
-    disk.put(folder, {name: encode([COLUMNS[name] + (NOTE,)] + [tuple(row) + ("",) for row in rows], Form())
-                      for name, rows in made.items()})
-    return list(made)
+    disk.put(folder, made)

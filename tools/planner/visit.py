@@ -79,7 +79,7 @@ def read_move(line, row):
     for part, take in (("items", read_item), ("pairs", read_pair), ("objects", read_object)):
         if part in code.fields:
             what = tuple(take(line, row, text) for text in parts_of(row))
-    return Move(row.number, code.number, who, where, what, row.file == BRINGUP)
+    return Move(row.number, code.number, who, where, what, row.table == BRINGUP)
 
 
 def read_actor(line, row):

@@ -4,6 +4,7 @@ from pathlib import Path
 
 from . import disk
 from .tables import COLUMNS
+from .workbook import NAMES
 
 SECONDS = 0.5
 
@@ -12,7 +13,7 @@ def stamps(folder):
     """When each table was saved, and its size; None for one that is not there. Half-saved tables change again."""
     found = {}
     with disk.told("read", folder):
-        for name in COLUMNS:
+        for name in (*COLUMNS, *NAMES):
             try:
                 stat = (Path(folder) / name).stat()
                 found[name] = (stat.st_mtime_ns, stat.st_size, stat.st_ino)
