@@ -92,6 +92,25 @@ class Same(Books):
         self.assertEqual([workbook.text_of(value) for value in (None, 2, 2.0, 2.5, "x")], ["", "2", "2", "2.5", "x"])
 
 
+    def test_cells_and_rows_that_are_told_once(self):
+        """Spreadsheet programs say of equal neighbours how many there are; rows keep their numbers."""
+        ods = workbook.library(".ods", "write")
+        from odf.opendocument import OpenDocumentSpreadsheet
+        from odf.table import Table, TableCell, TableRow
+        book, table = OpenDocumentSpreadsheet(), Table(name="Visit ")
+        blank = TableRow(numberrowsrepeated=2)
+        blank.addElement(TableCell(numbercolumnsrepeated=1024))
+        last = TableRow()
+        last.addElement(TableCell(numbercolumnsrepeated=3))
+        last.addElement(ods.table_row([("x", None, None, False)]).firstChild)
+        last.addElement(TableCell(numbercolumnsrepeated=1020))
+        for row in (ods.table_row([("a", None, None, False)]), blank, last, TableRow(numberrowsrepeated=1048572)):
+            table.addElement(row)
+        book.spreadsheet.addElement(table)
+        book.save("told.ods")
+        self.assertEqual(workbook.read_book("told.ods"), {"visit": [["a"], [], [], ["", "", "", "x"]]})
+
+
 @needs_libraries
 class Written(Books):
     def test_answers_in_words_and_colour(self):
