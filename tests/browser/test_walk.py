@@ -12,7 +12,7 @@ from planner import wording as w
 from planner.judged import judge_folder, judge_moves
 from planner.page import page_html
 from planner.page_data import contents, stops
-from planner.picture import shown_state
+from planner.picture import draw_plan, shown_state
 from planner.visit import move_words
 
 # What stands where on the page, read from what is shown.
@@ -227,6 +227,15 @@ class Walk(unittest.TestCase):
             links = sum(len(finding.chain) for step in plan.steps for finding in plan.findings(step))
             self.assertEqual(flat.count("hasanentry") + flat.count("readsitshard-wireddescriptor"), links, name)
             self.assertIn("line.bin", flat)
+
+    def test_a_picture_at_full_size(self):
+        """The picture of all 96 objects is printed on one page, an A3."""
+        (self.folder / "picture.svg").write_text(draw_plan(self.plans["large"]), encoding="utf-8")
+        self.browser.open((self.folder / "picture.svg").as_uri())
+        (self.folder / "picture.pdf").write_bytes(self.browser.printed())
+        told = subprocess.run(["pdfinfo", self.folder / "picture.pdf"], capture_output=True, text=True).stdout
+        self.assertRegex(told, r"Pages: +1\n")
+        self.assertRegex(told, r"Page size: +84[12]\S* x 119[01]\S* pts")
 
 
 if __name__ == "__main__":

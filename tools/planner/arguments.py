@@ -25,11 +25,18 @@ def spot_of(text):
     return int(row), BRINGUP if colon else VISIT
 
 
+def which_of(text):
+    """A row, or `all` for every row."""
+    return ALL if text == ALL else spot_of(text)
+
+
 # What is not a path: how it is taken from the command line, what it is called in the help, and what it is for.
+ALL = "all"
 ROW_HELP = "a row of visit.csv"
 WORDS = {
     "ROW": (int, "ROW", ROW_HELP),
     "SPOT": (spot_of, "ROW", f"{ROW_HELP}, or bringup:4 for one of bringup.csv"),
+    "WHICH": (which_of, "ROW", f"{ROW_HELP}, bringup:4 for one of bringup.csv, or '{ALL}' for every row and the end"),
 }
 FLAGS = {
     "--write": dict(type=int, metavar="N", help="put the change of this number into visit.csv"),
@@ -39,10 +46,11 @@ FLAGS = {
 
 
 def add_argument(command, argument):
-    """An argument by its name, in brackets if it may be left out, or an option."""
+    """An argument by its name, in brackets if it may be left out, with dots if there may be several, or an option."""
     if argument in FLAGS:
         command.add_argument(argument, **FLAGS[argument])
         return
-    bare = argument.strip("[]")
+    bare = argument.strip("[.]")
     kind, shown, text = WORDS.get(bare, (Path, bare, None))
-    command.add_argument(bare.lower(), metavar=shown, type=kind, help=text, nargs="?" if argument != bare else None)
+    nargs = "*" if ".." in argument else "?" if argument != bare else None
+    command.add_argument(bare.lower(), metavar=shown, type=kind, help=text, nargs=nargs)

@@ -5,13 +5,13 @@ import time
 
 from . import disk, files, office, repairs, starting, unpack, workbook
 from . import wording as w
-from .arguments import Parser, add_argument
+from .arguments import ALL, Parser, add_argument
 from .book_plan import book_tables, put_table, store_book
 from .chain import BrokenChain
 from .config import Config
 from .judged import judge_folder
 from .page import page_html
-from .picture import draw_plan
+from .picture import draw, picture_name
 from .repair import Search
 from .report import ANSWER_COLUMNS, answer_rows, check_lines, explain_lines, refused_whole
 from .sheet import encode
@@ -90,7 +90,7 @@ def parser():
             ("explain", run_explain, ("DIR", "SPOT"), "say why a row is refused, for 19 and 20 link by link"),
             ("repair", run_repair, ("DIR", "[ROW]", "--write", "--most"),
              "find small changes after which a row is accepted"),
-            ("picture", run_picture, ("DIR", "[ROW]"), "draw the partitions after the visit, or at a row"),
+            ("picture", run_picture, ("DIR", "[WHICH..]"), "draw the partitions after the visit, or at rows"),
             ("page", run_page, ("DIR",), "write page.html, on which the plan can be walked through in a browser"),
             ("timeline", run_timeline, ("DIR",), "write timeline.csv: which card is where, from which row to which"),
             ("sheet", run_sheet, ("DIR",), "write a page to print for the technicians, with a box for each step"),
@@ -204,13 +204,19 @@ def write_repair(options, plan, change):
 
 
 def run_picture(options):
+    """Pictures of rows; without any, and with all of them, of how the visit ends."""
     plan = load(options)
     if not judged(plan):
         return REFUSED
-    step = None if options.row is None else step_at(plan, options.row)
-    name = "picture.svg" if step is None else f"picture-row-{options.row}.svg"
-    disk.put(options.dir, {name: draw_plan(plan, step).encode()})
-    say([f"Drawn: {options.dir / name}"])
+    steps = [step_at(plan, *spot) for spot in options.which if spot != ALL] or [None]
+    if ALL in options.which:
+        steps = plan.failed_bringup + plan.visit + [None]
+    made = {picture_name(step): draw(plan, step) for step in steps}
+    disk.put(options.dir, {name: picture.text.encode() for name, picture in made.items()})
+    large = [name for name, picture in made.items() if not picture.prints]
+    again = f"{options.tool} page {shlex.quote(str(options.dir))}"
+    say([f"Drawn: {options.dir / name}" for name in made] +
+        ([f"Too large to be read on one A3 page: {', '.join(large)}. Try: {again}"] if large else []))
     return DONE
 
 

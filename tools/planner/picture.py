@@ -1,8 +1,11 @@
 """A picture of a plan as SVG: partitions as boxes with their drivers, cards and objects; a refusal's chain in red."""
+from dataclasses import dataclass
+
 from . import wording as w
 from .reach import chain_sentences, searched_state
-from .routes import band_heights, draw_routes, gutter_widths, plan_routes
-from .scene import COLUMN, EXTRA, HEADER, LINE, MARGIN, PAD, PER_ROW, TITLE, arrange, build
+from .routes import draw_routes, pack_bands, pack_lanes, plan_routes
+from .scene import COLUMN, EXTRA, HEADER, LINE, MARGIN, PAD, TITLE, arrange, build
+from .shelves import AROUND, print_style, prints, shelve
 from .svg import box, document, label, lines_of, rounded, tag, text_width
 from .visit import move_words
 
@@ -13,10 +16,29 @@ GROUP_COLOURS = {w.DRIVER: ("#d8ecd9", "#2f6b36"), w.DEVICE: ("#d6e4f7", "#1d4e8
 # How an arrow is drawn by what its entry does, and what the legend says of it.
 LOOKS = {w.READ: {}, w.WRITE: dict(stroke_dasharray="6 4"), w.BOTH: dict(stroke_dasharray="14 4 3 4")}
 LEGEND = {w.READ: "reads", w.WRITE: "could write", w.BOTH: "could do both"}
-LEAST_WIDTH = 860
+LEAST_WIDTH, LINK_ROOM = 860, 25
+
+
+@dataclass(frozen=True)
+class Picture:
+    """A picture's file, and whether it can be read on one A3 page."""
+    text: str
+    prints: bool
+
+
+def picture_name(step):
+    """The file's name: after the visit, at a row, or at a row of the bring-up."""
+    if step is None:
+        return "picture.svg"
+    return f"picture-{'bringup' if step.move.bringup else 'row'}-{step.move.row}.svg"
 
 
 def draw_plan(plan, step=None):
+    """The picture's file alone."""
+    return draw(plan, step).text
+
+
+def draw(plan, step=None):
     """The picture after the whole visit, or at a step: as refused, or as it stands after an accepted move."""
     findings = plan.explained(step) if step else []
     chain = next((finding.chain for finding in findings if finding.chain), ())
@@ -24,18 +46,20 @@ def draw_plan(plan, step=None):
     marks = marked(plan, step, findings, chain)
     colour = GREEN if step and step.accepted else RED
     scene = build(plan.config, state, chain, marks)
+    shelve(scene, AROUND + LINK_ROOM * len(chain))
     routes = plan_routes(scene, chain)
-    columns, lines = min(PER_ROW, len(scene.boxes)), -(-len(scene.boxes) // PER_ROW)
-    gutters = gutter_widths(routes, columns)
-    width = max(2 * MARGIN + columns * COLUMN + sum(gutters), LEAST_WIDTH)
+    bands = pack_bands(routes, scene.lines)
+    gutters = pack_lanes(scene, routes, bands)
+    width = max(2 * MARGIN + scene.columns * COLUMN + sum(gutters), LEAST_WIDTH)
     body, top = heading(plan, step, findings, chain, width)
-    arrange(scene, top, gutters, band_heights(routes, lines))
+    arrange(scene, top, gutters, bands)
     draw_routes(scene, routes)
     for one in scene.boxes:
         body += draw_box(plan.config, one, marks, colour)
     body += draw_chain(scene, chain, routes)
     notes, bottom = footer(plan, step, chain, scene.height + 14, width)
-    return document(width, bottom + MARGIN / 2, body + notes)
+    height = bottom + MARGIN / 2
+    return Picture(document(width, height, body + notes, print_style(width, height)), prints(width, height))
 
 
 def shown_state(plan, step):
@@ -60,12 +84,12 @@ def marked(plan, step, findings, chain):
 def heading(plan, step, findings, chain, width):
     """What the picture is about; for a refusal without a chain also what it failed on."""
     if step is None:
-        title, texts = "After the visit", [f"{len(plan.steps)} moves, "
-                                           f"{sum(one.accepted for one in plan.steps)} of them accepted"]
+        title, texts = "After the visit", [f"{len(plan.visit)} moves, "
+                                           f"{sum(one.accepted for one in plan.visit)} of them accepted"]
         colour = INK
     else:
         verdict = "accepted" if step.accepted else f"refused by question {step.answer}"
-        title = f"Row {step.move.row} (move {step.place}): {verdict}"
+        title = f"{step.move.spot.capitalize()} (move {step.place}): {verdict}"
         texts = [move_words(plan.config, step.move)]
         colour = GREEN if step.accepted else RED
         if not step.accepted:
@@ -87,21 +111,21 @@ def draw_box(config, one, marks, colour):
         frame["stroke_dasharray"] = "6 4"
     title = config.partition(one.number) if one.number else "In no partition (inactive)"
     number = f"partition {one.number}" if one.number in config.partitions else ""
-    body = [box(one.x, one.y, COLUMN, one.height, rx=10, fill="#f8fafc" if one.number else "#ffffff", **frame),
-            label(one.x + PAD, one.y + 22, title, 15, COLUMN - 130, font_weight="bold", fill=INK),
-            label(one.x + COLUMN - PAD, one.y + 22, number, 11, text_anchor="end", fill=GREY)]
+    body = [box(one.x, one.y, one.width, one.height, rx=10, fill="#f8fafc" if one.number else "#ffffff", **frame),
+            label(one.x + PAD, one.y + 22, title, 15, one.width - 130, font_weight="bold", fill=INK),
+            label(one.x + one.width - PAD, one.y + 22, number, 11, text_anchor="end", fill=GREY)]
     if not one.groups:
         body.append(label(one.x + PAD, one.y + TITLE + 12, "empty", 12, fill=GREY, font_style="italic"))
     for group in one.groups:
-        body += draw_group(config, one, group, marks, colour)
+        body += draw_group(config, group, marks, colour)
     return body
 
 
-def draw_group(config, one, group, marks, colour):
+def draw_group(config, group, marks, colour):
     """A driver, a card or the external objects, with a row for each object."""
     light, dark = GROUP_COLOURS[group.owner_class]
     hot = (group.owner_class, group.owner) in marks
-    x, width = one.x + PAD, COLUMN - 2 * PAD
+    x, width = group.x, COLUMN - 2 * PAD
     title = "external objects" if group.owner_class == w.EXTERNAL else config.actor(group.owner_class, group.owner)
     body = [box(x, group.y, width, group.height, rx=6, fill="#ffffff", stroke=colour if hot else dark,
                 stroke_width=2.2 if hot else 1),

@@ -1,9 +1,11 @@
 """The ways of a chain's arrows: out of a row, along a lane in the gutter between columns, into another row."""
-from dataclasses import dataclass
+from dataclasses import dataclass, field
 
-from .scene import COLUMN, PAD
+from .scene import COLUMN, PAD, arrange
 
 LANE, PORT, EDGE = 24, 8, 20
+BAND, ABOVE = 12, 18
+APART, BADGE = 6, 12
 
 
 @dataclass
@@ -17,6 +19,8 @@ class Route:
     in_gutter: int
     out_right: bool
     in_left: bool
+    band: int = 0
+    lanes: dict = field(default_factory=dict)
     points: list = None
     badge: tuple = None
 
@@ -58,18 +62,64 @@ def far(route):
     return route.out_gutter != route.in_gutter or route.source.line != route.target.line
 
 
-def gutter_widths(routes, columns):
-    """How wide each gutter must be for its lanes."""
-    counts = [len(lanes(routes, gutter)) for gutter in range(columns + 1)]
-    return [EDGE * 2 + LANE * (count - 1) if count else (EDGE if 0 < place < columns else 0)
-            for place, count in enumerate(counts)]
-
-
 def lanes(routes, gutter):
     """The routes that run in a gutter; near ones first, short ones nearest to the boxes that they leave."""
     inside = [route for route in routes if gutter in (route.out_gutter, route.in_gutter)]
     return sorted(inside, key=lambda route: (far(route), route.source.column != route.target.column, span(route),
                                              route.number))
+
+
+def pack(intervals):
+    """A lane for each interval, by its key: the first in which it overlaps no other. Also how many lanes that takes."""
+    taken, found = [], {}
+    for key, (low, high) in intervals.items():
+        free = (n for n, lane in enumerate(taken) if all(high < other[0] or other[1] < low for other in lane))
+        number = next(free, len(taken))
+        if number == len(taken):
+            taken.append([])
+        taken[number].append((low, high))
+        found[key] = number
+    return found, len(taken)
+
+
+def pack_bands(routes, lines):
+    """Bands over the top for far routes, shared by those that are apart; the room above each row of boxes."""
+    heights = []
+    for line in range(lines):
+        over = [route for route in routes if far(route) and route.target.line == line]
+        found, count = pack({route.number: sorted((route.out_gutter, route.in_gutter)) for route in over})
+        for route in over:
+            route.band = found[route.number]
+        heights.append(ABOVE + BAND * count if count else (0 if line == 0 else ABOVE))
+    return heights
+
+
+def pack_lanes(scene, routes, bands):
+    """Lanes in the gutters, shared by routes that are apart; how wide each gutter is. The heights are known by then."""
+    arrange(scene, 0, [0] * (scene.columns + 1), bands)
+    widths = []
+    for gutter in range(scene.columns + 1):
+        found, count = pack({route.number: extent(scene, route, gutter) for route in lanes(routes, gutter)})
+        for route in routes:
+            if route.number in found:
+                route.lanes[gutter] = found[route.number]
+        inner = EDGE if 0 < gutter < scene.columns else 0
+        widths.append(EDGE * 2 + LANE * (count - 1) if count else inner)
+    return widths
+
+
+def extent(scene, route, gutter):
+    """From where to where a route runs in a gutter, with room for its number."""
+    ends = [spot.centre for spot, where in ((route.source, route.out_gutter), (route.target, route.in_gutter))
+            if where == gutter]
+    ends += [band_height(scene, route)] if far(route) else []
+    low, high = min(ends), max(ends)
+    middle = (low + high) / 2
+    return min(low - APART, middle - BADGE), max(high + APART, middle + BADGE)
+
+
+def band_height(scene, route):
+    return scene.row_tops[route.target.line] + 10 + BAND * route.band
 
 
 def span(route):
@@ -97,11 +147,9 @@ def ports(routes):
 def draw_routes(scene, routes):
     """Fills in points and badges, once the scene is arranged."""
     offsets = ports(routes)
-    order = {gutter: [route.number for route in lanes(routes, gutter)] for gutter in scene.gutters}
-    over = [route for route in routes if far(route)]
 
     def lane(gutter, route):
-        return scene.gutters[gutter] + EDGE + LANE * order[gutter].index(route.number)
+        return scene.gutters[gutter] + EDGE + LANE * route.lanes[gutter]
 
     for route in routes:
         source, target, inner_width = route.source, route.target, COLUMN - 2 * PAD
@@ -112,14 +160,6 @@ def draw_routes(scene, routes):
             route.points = [start, (x, start[1]), (x, end[1]), end]
             route.badge = (x, (start[1] + end[1]) / 2)
             continue
-        band = scene.row_tops[route.target.line] + 10 + 12 * over.index(route)
-        inner = lane(route.in_gutter, route)
+        band, inner = band_height(scene, route), lane(route.in_gutter, route)
         route.points = [start, (x, start[1]), (x, band), (inner, band), (inner, end[1]), end]
         route.badge = (x, (start[1] + band) / 2)
-
-
-def band_heights(routes, lines):
-    """The room above each row of boxes for the routes that come in over the top."""
-    over = [route for route in routes if far(route)]
-    return [18 + 12 * len(over) if any(route.target.line == line for route in over) else (0 if line == 0 else 18)
-            for line in range(lines)]

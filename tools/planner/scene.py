@@ -5,10 +5,10 @@ from . import wording as w
 from .book import NONE
 from .visit import raw_words
 
-PER_ROW, MOST_UNFOLDED = 3, 40
+MOST_UNFOLDED = 40
 COLUMN, PAD = 360, 14
 TITLE, HEADER, LINE, EXTRA, GAP = 34, 26, 24, 18, 12
-MARGIN, BAND = 30, 18
+MARGIN = 30
 
 
 @dataclass
@@ -45,6 +45,7 @@ class Group:
     owner: int
     spots: list
     folded: bool = False
+    x: float = 0
     y: float = 0
 
     @property
@@ -54,15 +55,24 @@ class Group:
 
 @dataclass
 class Box:
-    """A partition, or what is in none (number 0)."""
+    """A partition, or what is in none (number 0). Its groups stand in one or more columns, the strips."""
     number: int
     groups: list
+    strips: list = None
+    line: int = 0
+    column: int = 0
     x: float = 0
     y: float = 0
+    width: float = COLUMN
+
+    def room(self, strips):
+        """How tall the box is with its groups in these strips."""
+        tallest = max(sum(group.height + GAP for group in strip) for strip in strips)
+        return TITLE + tallest + (0 if self.groups else HEADER)
 
     @property
     def height(self):
-        return TITLE + sum(group.height + GAP for group in self.groups) + (0 if self.groups else HEADER)
+        return self.room(self.strips)
 
 
 @dataclass
@@ -70,6 +80,8 @@ class Scene:
     """All boxes, the objects' spots by number, and the room that the grid takes."""
     boxes: list
     spots: dict = field(default_factory=dict)
+    columns: int = 0
+    lines: int = 0
     gutters: dict = field(default_factory=dict)
     row_tops: dict = field(default_factory=dict)
     width: float = 0
@@ -107,11 +119,7 @@ def build(config, state, chain, marks=()):
         shown = {number for sort, number in marks if sort == "object"} | {link.to for link in chain}
         for group in (group for one in scene.boxes for group in one.groups):
             group.folded = not shown.intersection(spot.object for spot in group.spots)
-    for place, one in enumerate(scene.boxes):
-        for group in one.groups:
-            for one_spot in group.spots:
-                one_spot.column, one_spot.line = place % PER_ROW, place // PER_ROW
-                scene.spots[one_spot.object] = one_spot
+    scene.spots = {spot.object: spot for one in scene.boxes for group in one.groups for spot in group.spots}
     return scene
 
 
@@ -119,30 +127,30 @@ def arrange(scene, top, gutters, bands):
     """Gives every box, group and spot its place; gutters are widths beside columns, bands heights above rows."""
     x = MARGIN + gutters[0]
     lefts = []
-    columns = min(PER_ROW, len(scene.boxes))
-    for column in range(columns):
+    for column in range(scene.columns):
         lefts.append(x)
         scene.gutters[column + 1] = x + COLUMN
         x += COLUMN + gutters[column + 1]
     scene.gutters[0], scene.width = MARGIN, x + MARGIN
     y = top
-    for line in range((len(scene.boxes) + PER_ROW - 1) // PER_ROW):
+    for line in range(scene.lines):
         scene.row_tops[line] = y
         y += bands[line]
-        row = scene.boxes[line * PER_ROW:(line + 1) * PER_ROW]
-        for column, one in enumerate(row):
-            arrange_box(one, lefts[column], y)
+        row = [one for one in scene.boxes if one.line == line]
+        for one in row:
+            arrange_box(one, lefts[one.column:one.column + len(one.strips)], y)
         y += max(one.height for one in row) + GAP
     scene.height = y
 
 
-def arrange_box(one, x, y):
-    one.x, one.y = x, y
-    y += TITLE
-    for group in one.groups:
-        group.y = y
-        inner = y + HEADER
-        for spot in group.spots:
-            spot.x, spot.y = x + PAD, inner
-            inner += spot.height
-        y += group.height + GAP
+def arrange_box(one, lefts, top):
+    one.x, one.y, one.width = lefts[0], top, lefts[-1] + COLUMN - lefts[0]
+    for x, strip in zip(lefts, one.strips):
+        y = top + TITLE
+        for group in strip:
+            group.x, group.y = x + PAD, y
+            inner = y + HEADER
+            for spot in group.spots:
+                spot.x, spot.y = x + PAD, inner
+                inner += spot.height
+            y += group.height + GAP

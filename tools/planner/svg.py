@@ -73,11 +73,12 @@ def rounded(points, radius=8):
     return "".join(parts) + f"L{points[-1][0]:.1f},{points[-1][1]:.1f}"
 
 
-def document(width, height, body):
-    """A whole file on white, with the arrow heads that the picture uses."""
+def document(width, height, body, style=""):
+    """A whole file on white, with the arrow heads that the picture uses, and with a style sheet if need be."""
     head = '<marker id="head" viewBox="0 0 10 10" refX="9" refY="5" markerWidth="9" markerHeight="9" ' \
            'markerUnits="userSpaceOnUse" orient="auto"><path d="M0,0L10,5L0,10z" fill="#c8102e"/></marker>'
     frame = attributes(dict(xmlns="http://www.w3.org/2000/svg", width=round(width), height=round(height),
                             viewBox=f"0 0 {round(width)} {round(height)}", font_family=FONT))
     paper = box(0, 0, width, height, fill="#ffffff")
-    return "\n".join([f"<svg{frame}>", f"<defs>{head}</defs>", paper] + body + ["</svg>", ""])
+    sheet = [f"<style>{style}</style>"] if style else []
+    return "\n".join([f"<svg{frame}>", f"<defs>{head}</defs>"] + sheet + [paper] + body + ["</svg>", ""])
