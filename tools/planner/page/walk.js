@@ -28,22 +28,24 @@ function choose(place, one = -1) {
 // The list and the slider.
 function mark() {
   const inList = $("stops").contains(document.activeElement);
-  items.forEach((item, place) => {
-    const chosen = place === now;
-    item.classList.toggle("chosen", chosen);
-    item.firstElementChild.tabIndex = chosen ? 0 : -1;
-    if (chosen) item.firstElementChild.setAttribute("aria-current", "step");
-    else item.firstElementChild.removeAttribute("aria-current");
-    item.querySelectorAll(".link").forEach((node, number) => {
-      node.tabIndex = chosen ? 0 : -1;
-      node.setAttribute("aria-pressed", String(chosen && number === link));
-    });
-  });
+  for (const item of document.querySelectorAll(".stop.chosen")) markItem(item, false);
+  markItem(items[now], true);
   const line = items[now].querySelectorAll(".link")[link], target = line || items[now].firstElementChild;
   if (inList) target.focus({ preventScroll: true });
   (line || items[now]).scrollIntoView({ block: "nearest" });
   $("slider").value = String(now);
   $("slider").setAttribute("aria-valuetext", wordsOf(now));
+}
+
+function markItem(item, chosen) {
+  item.classList.toggle("chosen", chosen);
+  item.firstElementChild.tabIndex = chosen ? 0 : -1;
+  if (chosen) item.firstElementChild.setAttribute("aria-current", "step");
+  else item.firstElementChild.removeAttribute("aria-current");
+  item.querySelectorAll(".link").forEach((node, number) => {
+    node.tabIndex = chosen ? 0 : -1;
+    node.setAttribute("aria-pressed", String(chosen && number === link));
+  });
 }
 
 function wordsOf(place) {
