@@ -3,6 +3,7 @@ import subprocess
 import tempfile
 import time
 import unittest
+from dataclasses import replace
 from pathlib import Path
 
 import sorters
@@ -26,17 +27,25 @@ SHOWN = """(() => {
 })()"""
 LIT = "[...document.querySelectorAll('.object.{}')].map((one) => Number(one.dataset.object)).sort((a, b) => a - b)"
 ARROWS = "[...document.querySelectorAll('.arrow.chosen')].map((one) => one.dataset.link)"
+WIDEST = "Math.max(...[...document.querySelectorAll('body *')].filter((one) => !one.closest('.arrows, .hidden'))" \
+         ".map((one) => one.getBoundingClientRect().right))"
+CUT = "[...document.querySelectorAll('h1, h2, h3, p, .object, .owner, .pick, .why, .partition, th')]" \
+      ".filter((one) => one.scrollWidth > one.clientWidth + 1).map((one) => one.textContent)"
 CHOSEN = "document.querySelector('.stop.chosen').id"
 
 
 def plans():
-    """Plans on lines of 5, 40 and 96 objects, and the example, each with a name."""
+    """Plans on lines of 5, 40 and 96 objects, the example, and one with long names, each with a name."""
     config, moves = sorters.small()
     yield "small", judge_moves(PROGRAM, config, moves)
     for name, size in (("middle", dict(cards=7, loose=2)), ("large", dict(cards=16, loose=8, drivers=8))):
         made = sorters.visit(**size)
         yield name, judge_moves(PROGRAM, made.config, made.rows())
     yield "example", judge_folder(PROGRAM, ROOT / "examples" / "visit")
+    config, moves = sorters.small()
+    config.drivers[1], config.partitions[1] = "Sortieranlagensteuerung" * 4, "Paketverteilzentrum" * 5
+    config.objects[5] = replace(config.objects[5], name="Barcodezuordnungstabelle" * 4)
+    yield "long", judge_moves(PROGRAM, config, moves)
 
 
 class Walk(unittest.TestCase):
@@ -176,14 +185,13 @@ class Walk(unittest.TestCase):
         self.assertEqual(self.browser.value("document.querySelectorAll('.object').length"), 96)
 
     def test_nothing_sticks_out(self):
-        """At the width of a desk and of a telephone nothing is wider than the page, with all objects shown."""
+        """At the width of a desk and of a telephone nothing is wider than the page, nor text than what it is in."""
         for name in self.plans:
             for width in (1280, 390):
                 self.open(name, "row-4", width=width)
                 self.browser.value("document.getElementById('fold').checked && document.getElementById('fold').click()")
-                wide = "Math.max(...[...document.querySelectorAll('body *')].filter((one) => !one.closest('.arrows, " \
-                       ".hidden')).map((one) => one.getBoundingClientRect().right))"
-                self.assertLessEqual(self.browser.value(wide), width + 1, f"{name} at {width}")
+                self.assertLessEqual(self.browser.value(WIDEST), width + 1, f"{name} at {width}")
+                self.assertEqual(self.browser.value(CUT), [], f"{name} at {width}")
 
     def test_themes(self):
         """Text is well set off from its ground in both themes: at least 4.5 to 1, as the guidelines have it."""

@@ -6,9 +6,10 @@ from collections import Counter
 import sorters
 from common import PROGRAM, ROOT
 from lines import random_line, random_visit
+from planner import wording as w
 from planner.causes import origins
 from planner.judged import judge_folder, judge_moves
-from planner.visit import Move
+from planner.visit import Item, Move
 
 
 def judged(slips=sorters.SLIPS):
@@ -84,6 +85,13 @@ class Cases(unittest.TestCase):
         """A card that could not leave at first has left since: coming back twice is a slip of its own."""
         _, answers, causes = on_example((5, 0, 1, ()), (11, 1, 0, ()), (8, 1, 1, ()), (8, 1, 1, ()))
         self.assertEqual((answers, causes), ([0, 16, 0, 16], {3: [], 5: []}))
+
+    def test_who_would_be_stopped_before_comes_of_nothing(self):
+        """Had the driver left in row 6, it could not write in row 7 either: that is no mending of row 7."""
+        queue, record = Item(2, w.VALUE_FORM, 4), Item(10, w.RAW_FORM)
+        _, answers, causes = on_example((5, 0, 1, ()), (7, 1, 1, ()), (8, 1, 1, ()), (1, 1, 0, (queue,)),
+                                        (10, 1, 0, ()), (1, 1, 0, (record,)))
+        self.assertEqual((answers, causes), ([0, 0, 0, 0, 20, 17], {6: [], 7: []}))
 
     def test_what_rests_on_no_state_is_a_cause(self):
         _, answers, causes = on_example((5, 0, 1, ()), (8, 9, 1, ()), (8, 9, 1, ()), (9, 0, 1, (1,)), (9, 0, 1, (99,)))
