@@ -4,6 +4,7 @@
 #   make install PREFIX=/usr  copy it to PREFIX (/usr/local if none is given), below DESTDIR if that is given
 #   make check                lint, try the library from C and Rust, and count it; bash .ci/run proves all anew
 #   make bench                try the gate in plain C against the library, then the tables of docs/PERFORMANCE.md
+#   make dist                 an archive for planners in target/dist: office program, tools/plan, examples, manual
 #   make clean                remove what this file makes, and nothing that rt keeps
 PREFIX ?= /usr/local
 given := $(PREFIX)
@@ -21,7 +22,7 @@ VERSION := 0.1.0
 library := target/staticlib/libgate.a
 sources := crates.txt $(shell find crates -name '*.rt' -o -name '*.antt')
 
-.PHONY: all lib places install check bench clean
+.PHONY: all lib places install check bench dist clean
 all: lib
 lib: $(library)
 
@@ -80,5 +81,22 @@ check: $(library)
 bench: $(library)
 	python3 bench/run.py
 
+# What a planner needs beside Python: no toolchain, no sources. Each archive of the same files is the same, byte for byte.
+dist_name := kolluwar-plan-$(VERSION)
+dist_files := LICENSE judge tools/plan tools/office tools/planner docs/PLANNER.md docs/QUESTIONS.md \
+    $(wildcard docs/page*.png) examples/visit examples/today
+dist:
+	@./judge --program > /dev/null
+	@rm -rf target/dist && mkdir -p target/dist/$(dist_name)/target/bin
+	@cp --parents -R $(dist_files) target/dist/$(dist_name)
+	@install -m 755 target/bin/office target/dist/$(dist_name)/target/bin/office
+	@find target/dist -name __pycache__ -prune -exec rm -rf {} +
+	@find target/dist/$(dist_name)/examples \( -name '*.html' -o -name '*.before.*' -o -name timeline.csv \) -delete
+	@sed 's|@VERSION@|$(VERSION)|' tools/README-dist > target/dist/$(dist_name)/README
+	@cd target/dist && tar --sort=name --mtime='1980-01-01 UTC' --owner=0 --group=0 --numeric-owner --mode=u+rw,go+r-w \
+	    -cf - $(dist_name) | gzip -9n > $(dist_name).tar.gz
+	@rm -rf target/dist/$(dist_name)
+	@echo target/dist/$(dist_name).tar.gz
+
 clean:
-	rm -rf target/staticlib target/bindings target/lint target/gate.log
+	rm -rf target/dist target/staticlib target/bindings target/lint target/gate.log
