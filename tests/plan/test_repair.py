@@ -110,6 +110,15 @@ class Listed(InFolder):
         self.assertIn("What is still in it taken out first: deactivate card Diverter;", text)
         self.assertIn("(6 moves added)", text)
 
+    def test_of_two_neighbours_the_row_is_shown_that_is_named(self):
+        """Row 4 below row 5 is the same order as row 5 above row 4."""
+        rows = rows_of(TODAY)
+        rows[3:7] = [rows[3], rows[6], *rows[4:6]]
+        save(TODAY, rows)
+        text = plan("repair", TODAY, 4)[1]
+        self.assertIn("  1. Row 4 later, below row 5 (1 row moved). Accepted with it: rows 6, 7.\n"
+                      "     Below row 5 comes:\ndeactivate,Scale,,,guard of the scale opens\n", text)
+
     def test_a_table_keeps_its_form_its_columns_and_its_blank_rows(self):
         form = german.FORMS["Excel, Unicode text"]
         rows = [[*row[:4], "", row[4]] for row in rows_of(TODAY)]

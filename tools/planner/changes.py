@@ -14,7 +14,7 @@ MOST_ITEMS = w.LIMITS["items of a move"]
 
 @dataclass(frozen=True)
 class Change:
-    """A changed order, in words; how many changes it is, and what it costs; `row` is another that it moves."""
+    """A changed order, in words; how many changes it is, and what it costs; `row` is the one that it moves."""
     sort: str
     order: tuple
     texts: tuple
@@ -43,14 +43,14 @@ def later_places(rows, order, target):
         place = order.index(row)
         rest = order[place + 1] if place + 1 < len(order) else None
         yield Change("later", displaced(order, target, rest), (f"row {target} later, below row {row}",), moved=1,
-                     distance=distance)
+                     distance=distance, row=target)
 
 
 def earlier_places(rows, order, target):
     """The target above each row before it, nearest first."""
     for distance, row in enumerate(reversed(rows[:rows.index(target)]), 1):
         yield Change("earlier", displaced(order, target, row), (f"row {target} earlier, above row {row}",), moved=1,
-                     distance=distance)
+                     distance=distance, row=target)
 
 
 def others_first(rows, order, target):

@@ -27,7 +27,7 @@ from .watch import watch
 DONE, REFUSED, USAGE, TABLES, PROGRAM, UNEXPLAINED = range(6)
 STATUSES = """exit statuses:
   0  done; for 'check': every move is accepted
-  1  a move or the line is refused
+  1  a move or the line is refused; for 'start': not all that is stored could be brought about
   2  the command is not typed as it should be, or a file or the output cannot be read or written
   3  a table is at fault; file, row and column are named
   4  the office program is not to be had or failed, or its answers are not whole

@@ -69,7 +69,7 @@ def blocks(change, order):
 def staying(change, order):
     """The rows that keep their order; a change moves one row at most."""
     rows = [one for one in change.order if isinstance(one, int)]
-    for moved in [None] + rows:
+    for moved in (None, change.row):
         kept = [one for one in rows if one != moved]
         if kept == [one for one in order if one in kept]:
             return set(kept)
