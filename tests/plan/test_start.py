@@ -127,9 +127,11 @@ class Today(InFolder):
         status, text, _ = self.start(area_bytes(judged.config, state))
         self.assertEqual(status, 1)
         self.assertIn("1 refused.", text)
+        self.assertIn("See: tools/plan explain examples/today bringup:9\n", text)
+        self.assertIn("Row 9 of bringup.csv (move 8): driver Sorting", plan("explain", TODAY, "bringup:9")[1])
         self.assertIn("The state after it is not that of stored. It should be:", text)
-        self.assertIn("  What Job queue (transfer descriptor of driver Sorting control) holds: 'Divert by weight', and "
-                      "not cleared.", text)
+        self.assertTrue(text.endswith("It should be:\n  What Diverter ring (transfer descriptor of card Diverter) "
+                                      "holds: 'Follow the queue', and not cleared.\n"), "all else is as it should be")
 
     def test_a_line_without_drivers(self):
         shutil.copytree(TODAY, "alone")
@@ -147,15 +149,20 @@ class Today(InFolder):
         self.assertTrue(text.endswith("Why: the line has no driver, so that nothing can be written.\n"), text)
 
     def test_a_line_that_is_refused(self):
-        text = (TODAY / "objects.csv").read_text(encoding="utf-8")
-        (TODAY / "objects.csv").write_text(text + "Wiring,hard-wired,Scale,\n", encoding="utf-8")
-        data = bytearray(self.area)
-        data[OBJECTS_AT + 15 * RECORD:OBJECTS_AT + 15 * RECORD + 2] = bytes((1, 3))
+        """By 5 in three ways: two hard-wired descriptors of a card, one of nobody, none."""
         before = (TODAY / "bringup.csv").read_bytes()
-        status, text, _ = self.start(data)
-        self.assertEqual(status, 1)
-        self.assertIn("The line is refused by question 5", text)
-        self.assertEqual((TODAY / "bringup.csv").read_bytes(), before)
+        text = (TODAY / "objects.csv").read_text(encoding="utf-8")
+        for changed in (text + "Wiring,hard-wired,Scale,\n", text + "Wiring,hard-wired,external,\n",
+                        text.replace("Scale wiring,hard-wired", "Scale wiring,data")):
+            (TODAY / "objects.csv").write_text(changed, encoding="utf-8")
+            status, said, _ = self.start(self.area)
+            self.assertEqual(status, 1)
+            self.assertTrue(said.startswith("The line is refused by question 5"), said)
+            self.assertEqual((TODAY / "bringup.csv").read_bytes(), before)
+
+    def test_an_area_of_a_hard_wired_descriptor_of_nobody(self):
+        config = Config({}, {}, {1: Object("O1", w.HARDCODED, w.EXTERNAL, 0)}, {})
+        self.assertEqual(read_area(config, bytes(AREA_BYTES)).contents, {1: 0})
 
 
 class Told(InFolder):

@@ -201,9 +201,11 @@ class Written(Books):
             self.assertEqual(Path(f"book/plan.before{suffix}").read_bytes(), before)
             self.assertEqual(workbook.read_book(path)["visit"][0], ["operation", "who", "where", "what", "note"])
             self.assertEqual(plan("check", folder)[0], 0)
-            self.assertEqual(plan("start", folder, "today/state.bin")[0], 3)
+            said = f"plan: {path}, sheet bringup: is already there; nothing was changed (--replace does it)\n"
+            self.assertEqual(plan("start", folder, "today/state.bin"), (3, "", said))
             self.rewrite(path, "bringup", lambda rows: rows.pop())
-            self.assertEqual(plan("start", folder, "today/state.bin", "--replace")[0], 0)
+            said = f"Made: {path}, sheet bringup, 7 moves: 7 accepted, 0 refused.\n"
+            self.assertTrue(plan("start", folder, "today/state.bin", "--replace")[1].startswith(said))
             self.assertEqual(plan("check", folder)[0], 0)
             self.assertEqual([one.name for one in folder.glob("*.csv")], [])
 

@@ -99,7 +99,7 @@ def take_object(config, state, number, record, at, faults):
     state.contents[number] = raw[0]
     if raw[0] > len(config.values) or any(raw[1:]):
         faults.append(f"byte {at + 1}: what {config.describe(number)} holds is no value of the tables")
-    elif one.kind == w.HARDCODED and raw[0] != config.devices[one.owner].hardcoded:
+    elif one.kind == w.HARDCODED and one.owner in config.devices and raw[0] != config.devices[one.owner].hardcoded:
         faults.append(f"byte {at + 1}: {config.describe(number)} holds '{config.value(raw[0])}', and by cards.csv "
                       f"'{config.value(config.devices[one.owner].hardcoded)}'")
 

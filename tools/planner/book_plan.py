@@ -72,6 +72,12 @@ def add_answers(plan, page, steps):
         page.marks[(step.move.row, width)] = GOOD if step.accepted else BAD
 
 
+def place_of(folder, name):
+    """Where a plan has a table, in words: the file, or the workbook's sheet."""
+    book = find_book(folder, COLUMNS)
+    return f"{book}, sheet {sheet_name(name)}" if book else str(folder / name)
+
+
 def put_table(folder, name, lines, form, keep=False):
     """Puts a table down where the plan has it: a file, or a sheet of the workbook. What was written, by name.
 

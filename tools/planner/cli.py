@@ -148,7 +148,7 @@ def run_start(options):
     """The bring-up to what a controller stored; its state is compared byte for byte."""
     folder = folder_of(options)
     started = starting.start(office.find_office(options.office), folder, options.area, options.replace)
-    say(starting.start_lines(started, folder, options.area))
+    say(starting.start_lines(started, options.area, f"{options.tool} explain {shlex.quote(str(folder))}"))
     return DONE if started.same else REFUSED
 
 
