@@ -87,7 +87,8 @@ class Browser:
             self.faults.append(told["entry"]["text"])
 
     def open(self, address, width=1280, height=800):
-        """Opens a page in a window of a size, and waits until it is there."""
+        """Opens a page as for the first time, in a window of a size, and waits until it is there."""
+        self.value("try { sessionStorage.clear(); } catch (fault) {}")
         self.ask("Emulation.setDeviceMetricsOverride", width=width, height=height, deviceScaleFactor=1, mobile=False)
         for goal in ("about:blank", address):
             self.ask("Page.navigate", url=goal)

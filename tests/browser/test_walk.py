@@ -16,14 +16,15 @@ from planner.page_data import contents, stops
 from planner.picture import draw_plan, shown_state
 from planner.visit import move_words
 
-# What stands where on the page, read from what is shown.
+# What stands where on the page, and what is lit, read from what is shown.
 SHOWN = """(() => {
   const places = {};
+  const lit = (look) => [...document.querySelectorAll(".object." + look)].map((one) => Number(one.dataset.object));
   for (const part of document.querySelectorAll(".partition"))
     for (const row of part.querySelectorAll(".object"))
       places[row.querySelector(".name").textContent] = [part.querySelector("h3 span").textContent,
         row.querySelector(".held").firstChild.textContent];
-  return places;
+  return { places, stop: document.getElementById("slider").value, changed: lit("changed"), failed: lit("failed") };
 })()"""
 LIT = "[...document.querySelectorAll('.object.{}')].map((one) => Number(one.dataset.object)).sort((a, b) => a - b)"
 ARROWS = "[...document.querySelectorAll('.arrow.chosen')].map((one) => one.dataset.link)"
@@ -87,26 +88,26 @@ class Walk(unittest.TestCase):
             if self.browser.value("document.getElementById('fold').checked"):
                 self.browser.click("#fold")
             for place, step in enumerate(stops(plan)):
-                self.assertEqual(self.browser.value("document.getElementById('slider').value"), str(place))
-                self.shown_as_it_is(plan, step, f"{name}, stop {place}")
+                shown = self.browser.value(SHOWN)
+                self.assertEqual(shown["stop"], str(place))
+                self.shown_as_it_is(plan, step, shown, f"{name}, stop {place}")
                 self.browser.press("ArrowRight")
 
-    def shown_as_it_is(self, plan, step, where):
+    def shown_as_it_is(self, plan, step, shown, where):
         config, state = plan.config, shown_state(plan, step) if step else plan.visit[0].before
         wanted = {config.object(n): [config.partition(state.objects[n]) if state.objects[n] else "In no partition",
                                      contents(config, n, state)] for n in config.objects}
-        self.assertEqual(self.browser.value(SHOWN), wanted, where)
+        self.assertEqual(shown["places"], wanted, where)
         if step and step.accepted:
             changed = {n for n in config.objects if step.after.contents[n] != step.before.contents[n]}
-            lit = set(self.browser.value(LIT.format("changed")))
-            self.assertLessEqual(changed, lit, where)
-            self.assertLessEqual(lit, changed | set(step.move.named()), where)
-            self.assertEqual(self.browser.value(LIT.format("failed")), [], where)
+            self.assertLessEqual(changed, set(shown["changed"]), where)
+            self.assertLessEqual(set(shown["changed"]), changed | set(step.move.named()), where)
+            self.assertEqual(shown["failed"], [], where)
         elif step:
             things = [thing for finding in plan.findings(step) for thing in finding.things]
             wanted = sorted({number for sort, number in things if sort == "object"})
-            self.assertEqual(self.browser.value(LIT.format("failed")), wanted, where)
-            self.assertEqual(self.browser.value(LIT.format("changed")), [], where)
+            self.assertEqual(sorted(shown["failed"]), wanted, where)
+            self.assertEqual(shown["changed"], [], where)
 
     def test_keys(self):
         self.open("example", "row-5")
@@ -218,6 +219,26 @@ class Walk(unittest.TestCase):
 
         low, high = sorted(map(light, colours))
         return (high + 0.05) / (low + 0.05)
+
+    def test_a_watched_page_is_loaded_again(self):
+        """Made anew meanwhile, it shows the new plan at the same row when one comes back; others stay as they are."""
+        again = self.folder / "again.html"
+        for watched in (True, False):
+            again.write_text(page_html(self.plans["example"], "before", watched), encoding="utf-8")
+            self.browser.open(again.as_uri() + "#row-14")
+            self.browser.click("#fold")
+            again.write_text(page_html(self.plans["example"], "after", watched), encoding="utf-8")
+            self.browser.value("window.dispatchEvent(new Event('blur')); window.dispatchEvent(new Event('focus')); 0")
+            end = time.monotonic() + (5 if watched else 0.5)
+            while self.title() != "after" and time.monotonic() < end:
+                time.sleep(0.02)
+            self.assertEqual(self.title(), "after" if watched else "before")
+            self.at(14)
+            self.assertTrue(self.browser.value("document.getElementById('fold').checked"))
+
+    def title(self):
+        """The page's, once it is there."""
+        return self.browser.value("document.title") if self.browser.reached().endswith("complete") else ""
 
     def test_print(self):
         """All moves, what the refused ones failed on, their chains, and the fingerprint are on the paper."""

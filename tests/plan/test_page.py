@@ -2,12 +2,16 @@
 
 What it does in a browser is tried by tests/browser.sh.
 """
+import argparse
 import base64
+import contextlib
 import hashlib
+import io
 import json
 import re
 import shutil
 import subprocess
+import tempfile
 import unittest
 from dataclasses import replace
 from html import unescape
@@ -16,6 +20,7 @@ from pathlib import Path
 import sorters
 from common import PROGRAM, ROOT, InFolder, plan
 from lines import random_line, random_visit
+from planner import cli
 from planner import wording as w
 from planner.causes import origins
 from planner.fingerprint import fingerprint
@@ -52,6 +57,13 @@ class Page(InFolder):
         page = (self.visit / "page.html").read_text(encoding="utf-8")
         self.assertEqual(page, page_html(example(), "Plan visit"))
 
+    def test_a_watched_page_knows_it(self):
+        """Only what `watch` writes is to be loaded again."""
+        for run, watched in ((cli.run_page, False), (cli.run_watch, True)):
+            with contextlib.redirect_stdout(io.StringIO()):
+                cli.run_page(argparse.Namespace(run=run, dir=self.visit, office=PROGRAM))
+            self.assertEqual('<html lang="en" data-watched>' in (self.visit / "page.html").read_text("utf-8"), watched)
+
     def test_a_refused_line_has_no_page(self):
         self.edit("cards.csv", "Scale start-up", "Calibrate")
         status, text, _ = plan("page", "examples/visit")
@@ -85,6 +97,19 @@ class Page(InFolder):
         self.assertEqual([key for _, key, _ in found],
                          [f"bringup-{step.move.row}" for step in judged.failed_bringup] + ["start"] +
                          [f"row-{step.move.row}" for step in judged.visit])
+
+
+class Script(unittest.TestCase):
+    def test_without_a_browser(self):
+        """It is said that nothing was tried; in the gate that is a failure."""
+        with tempfile.TemporaryDirectory() as folder:
+            for tool in ("bash", "dirname", "id"):
+                Path(folder, tool).symlink_to(shutil.which(tool))
+            for ci, status in (("", 0), ("true", 1)):
+                done = subprocess.run(["bash", ROOT / "tests" / "browser.sh"], capture_output=True, text=True,
+                                      env={"PATH": folder, "CI": ci})
+                self.assertEqual(done.returncode, status, done.stderr)
+                self.assertEqual(done.stdout, "" if status else "skipped: no browser\n")
 
 
 class Alone(unittest.TestCase):

@@ -225,7 +225,8 @@ def run_page(options):
     if not judged(plan):
         return REFUSED
     name = "page.html"
-    disk.put(options.dir, {name: page_html(plan, f"Plan {options.dir.resolve().name}").encode()})
+    page = page_html(plan, f"Plan {options.dir.resolve().name}", options.run is run_watch)
+    disk.put(options.dir, {name: page.encode("utf-8", "replace")})
     say([f"Written: {options.dir / name}"])
     return DONE
 

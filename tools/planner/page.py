@@ -24,12 +24,13 @@ def hashed(script):
     return base64.b64encode(hashlib.sha256(script.encode()).digest()).decode()
 
 
-def page_html(plan, title):
-    """The whole page."""
+def page_html(plan, title, watched=False):
+    """The whole page. A watched one is made anew by and by: it loads itself again when the planner comes back to it."""
     found = origins(plan)
     script = '"use strict";\n(() => {\n' + "".join(part(name) for name in SCRIPTS) + "})();\n"
     slots = {
         "title": escape(title),
+        "watched": " data-watched" if watched else "",
         "style": part("page.css"),
         "policy": f"default-src 'none'; style-src 'unsafe-inline'; script-src 'sha256-{hashed(script)}'",
         "summary": summary_html(plan, found),

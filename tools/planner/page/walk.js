@@ -157,6 +157,37 @@ function onPicture(event) {
 function setTheme(name) {
   document.documentElement.dataset.theme = name;
   $("theme").textContent = name === "dark" ? "Light" : "Dark";
+  keep("theme", name);
+}
+
+// What was chosen is kept while the page is open, also when it is loaded again; where that is not allowed, it is not.
+function keep(key, value) {
+  try {
+    sessionStorage.setItem(key, value);
+  } catch (fault) {
+    // Nothing is kept.
+  }
+}
+
+function kept(key, otherwise) {
+  try {
+    return sessionStorage.getItem(key) || otherwise;
+  } catch (fault) {
+    return otherwise;
+  }
+}
+
+// A page that is made anew whenever a table is saved is loaded again when the planner comes back to it.
+function loadAgain() {
+  let away = false;
+  window.addEventListener("blur", () => { away = true; });
+  window.addEventListener("focus", () => { if (away) location.reload(); });
+}
+
+function onFold() {
+  flipped.clear();
+  keep("fold", $("fold").checked ? "yes" : "no");
+  draw();
 }
 
 function theme() {
@@ -176,13 +207,13 @@ function begin() {
   }
   for (const id of ["walk", "theme", "fold-label", "legend", "keys"]) $(id).hidden = false;
   $("next").disabled = !refusals.length;
-  $("fold").checked = data.objects.length > MUCH;
-  setTheme(window.matchMedia("(prefers-color-scheme: dark)").matches ? "dark" : "light");
+  $("fold").checked = kept("fold", data.objects.length > MUCH ? "yes" : "no") === "yes";
+  setTheme(kept("theme", window.matchMedia("(prefers-color-scheme: dark)").matches ? "dark" : "light"));
   $("slider").addEventListener("input", () => choose(Number($("slider").value)));
   $("back").addEventListener("click", () => choose(now - 1));
   $("on").addEventListener("click", () => choose(now + 1));
   $("next").addEventListener("click", () => nextRefusal(1));
-  $("fold").addEventListener("change", () => { flipped.clear(); draw(); });
+  $("fold").addEventListener("change", onFold);
   $("theme").addEventListener("click", () => setTheme(theme() === "dark" ? "light" : "dark"));
   $("stops").addEventListener("click", onList);
   $("picture").addEventListener("click", onPicture);
@@ -190,6 +221,7 @@ function begin() {
   window.addEventListener("hashchange", fromAddress);
   window.addEventListener("resize", draw);
   window.addEventListener("beforeprint", openAll);
+  if ("watched" in document.documentElement.dataset) loadAgain();
   document.documentElement.classList.add("walks");
   fromAddress();
 }
