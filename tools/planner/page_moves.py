@@ -8,6 +8,7 @@ from .report import plural, rests_on, sentence
 from .timeline import NOWHERE, bare_name, not_back, tracks
 from .visit import move_words
 
+MOST_MARKS = 10
 HEADS = {w.DEVICE: "Cards", w.DRIVER: "Drivers", w.EXTERNAL: "External objects"}
 
 
@@ -108,7 +109,15 @@ def timeline_html(plan):
 
 def track_table(plan, found, sort, count):
     rows = "".join(track_row(plan, one, count) for one in found)
-    return element("table", element("caption", HEADS[sort]) + rows) if found else ""
+    return element("table", element("caption", HEADS[sort]) + axis_row(plan, count) + rows) if found else ""
+
+
+def axis_row(plan, count):
+    """Some of the rows' numbers, each over its place; for the eye alone, since every bar says its rows."""
+    apart = -(-count // MOST_MARKS) or 1
+    marks = [element("span", step.move.row, style=f"left:{100 * (place + 0.5) / (count + 1):.3f}%")
+             for place, step in enumerate(plan.visit, 1) if place % apart == 0]
+    return element("tr", element("th", "row") + element("td", "".join(marks)), class_="axis", aria_hidden="true")
 
 
 def track_row(plan, track, count):
