@@ -11,7 +11,8 @@ unset KOLLUWAR_OFFICE
 export PYTHONPYCACHEPREFIX="$out" PYTHONPATH="$PWD/tools:$PWD/tests:$PWD/tests/plan"
 # Workbooks need two libraries. In the gate they are installed if need be and allowed; else their tests are skipped.
 if [ "${CI:-}" = true ] && ! python3 tests/plan/libraries.py > /dev/null 2>&1 && [ "$(id -u)" = 0 ]; then
-    apt-get install --yes --no-install-recommends python3-openpyxl python3-odf > "$out/apt.log" 2>&1 ||
+    get=(apt-get install --yes --no-install-recommends python3-openpyxl python3-odf)
+    "${get[@]}" > "$out/apt.log" 2>&1 || { apt-get update && "${get[@]}"; } >> "$out/apt.log" 2>&1 ||
         tail -n 5 "$out/apt.log" >&2
 fi
 python3 -W error -m compileall -q tools/planner tests/plan tests/browser

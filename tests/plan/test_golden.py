@@ -43,14 +43,14 @@ class Stored(InFolder):
 
 
 class Runner(unittest.TestCase):
-    def run_on(self, *texts):
-        """The status of run.py in a folder with these test files."""
+    def run_on(self, *texts, **variables):
+        """The status of run.py in a folder with these test files, and with variables of the environment."""
         with tempfile.TemporaryDirectory() as folder:
             for name in ("run.py", "common.py"):
                 Path(folder, name).symlink_to(Path(run.__file__).with_name(name))
             for number, text in enumerate(texts):
                 Path(folder, f"test_{number}.py").write_text(text, encoding="utf-8")
-            with mock.patch.dict(os.environ, PYTHONPATH=f"{folder}:{os.environ['PYTHONPATH']}"):
+            with mock.patch.dict(os.environ, PYTHONPATH=f"{folder}:{os.environ['PYTHONPATH']}", **variables):
                 code = "import run, sys, pathlib; run.HERE = pathlib.Path(sys.argv[1]); sys.exit(run.main([]))"
                 return subprocess.run([sys.executable, "-c", code, folder], capture_output=True, timeout=60).returncode
 
@@ -59,6 +59,11 @@ class Runner(unittest.TestCase):
         self.assertEqual(self.run_on(TEST.format("test_one", 2)), 1)
         self.assertEqual(self.run_on(), 1)
         self.assertEqual(self.run_on(TEST.format("test_one", 1), "def test_alone():\n    pass\n"), 1)
+
+    def test_only_want_of_a_library_excuses_a_test_and_not_in_the_gate(self):
+        for why, gate, status in (("no library for .ods", "", 0), ("no library for .ods", "true", 1), ("late", "", 1)):
+            skipped = TEST.format("test_two", 1).replace("    def", f"    @unittest.skip('{why}')\n    def")
+            self.assertEqual(self.run_on(TEST.format("test_one", 1), skipped, CI=gate), status, (why, gate))
 
 
 if __name__ == "__main__":
