@@ -60,11 +60,15 @@ def library(suffix, doing):
     return importlib.import_module(f".{MODULES[suffix]}", __package__)
 
 
+def is_there(path):
+    with disk.told("read", path):
+        return path.exists()
+
+
 def find_book(folder, tables):
     """The workbook of a folder, or None; BookError if there are two, or tables beside it."""
-    with disk.told("read", folder):
-        there = [Path(folder) / name for name in NAMES if (Path(folder) / name).exists()]
-        beside = [name for name in tables if (Path(folder) / name).exists()]
+    beside = [name for name in tables if is_there(Path(folder) / name)]
+    there = [Path(folder) / name for name in NAMES if is_there(Path(folder) / name)]
     if len(there) > 1 or there and beside:
         other = there[1].name if len(there) > 1 else beside[0]
         raise BookError(f"{folder} has both {there[0].name} and {other}: keep the one that is the plan")
