@@ -20,7 +20,7 @@ use model::Operation;
 use operation::codes::actor_of;
 use operation::codes::family_of;
 use operation::read_operation;
-use state::formed::well_formed;
+use state::formed::is_formed;
 use state::look::right_length;
 
 // Questions 18 to 20 are about writes, copies and deactivations.
@@ -88,7 +88,15 @@ pub fn operate_on(
     if answer.len() < ANSWER_BYTES {
         return 8;
     }
-    if !well_formed(&state[..], room, config) {
+    if !is_formed(
+        &state[..],
+        room,
+        config.counts,
+        &config.objects.kind,
+        &config.objects.class,
+        &config.objects.owner,
+        &config.devices.hardcoded,
+    ) {
         return 9;
     }
     let parsed = read_operation(rec);

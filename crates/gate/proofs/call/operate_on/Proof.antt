@@ -2,6 +2,7 @@
 use borrow.Author.Tests.{not-true, not-false, eqb-true}
 use mathlib.Core.Path.{_∙_, sym}
 use borrow.Author.Needs.{needs}
+use Rattle.state.proofs.Forms.{whole-formed}
 use Rattle.gate.proofs.Readying
 use Rattle.gate.proofs.Calling
 use Rattle.gate.proofs.call.operate_on.Statement.{statement}
@@ -9,7 +10,7 @@ use Rattle.gate.proofs.call.operate_on.Tie as tie
 
 right-length-requires : tie.Need-right-length-requires
 right-length-requires c κs =
-    let a = c .before .before .before .before in Readying.room-small (a .args .config) (a .args .room) (a .pre .1)
+    let a = c .before .before .before .before in Readying.room-small (a .args .t1) (a .args .room) (a .pre .1)
 
 same-length : tie.Need-same-length
 same-length c = search needs
@@ -17,7 +18,7 @@ same-length c = search needs
 returns : tie.Need-returns
 returns c =
     let a = c .before .before .before .before .before .before in
-    Calling.no-7 (a .args .config) (a .args .room) (a .args .state .now) (a .args .rec .now) (a .args .answer .now)
+    Calling.no-7 (a .args .t1) (a .args .room) (a .args .state .now) (a .args .rec .now) (a .args .answer .now)
     (a .pre .1) (c .before .right-length .ensures) (not-true _ (c .if1 .taken))
 
 same-length-2 : tie.Need-same-length-2
@@ -26,22 +27,24 @@ same-length-2 c = search needs
 returns-2 : tie.Need-returns-2
 returns-2 c =
     let a = c .before .before .before .before .before .before .before in
-    Calling.no-8 (a .args .config) (a .args .room) (a .args .state .now) (a .args .rec .now) (a .args .answer .now)
+    Calling.no-8 (a .args .t1) (a .args .room) (a .args .state .now) (a .args .rec .now) (a .args .answer .now)
     (a .pre .1) (c .before .before .right-length .ensures) (not-false _ (c .before .if1 .left)) (c .if2 .taken)
 
-well-formed-requires : tie.Need-well-formed-requires
-well-formed-requires c κs =
-    eqb-true _ _ (sym (c .before .before .before .right-length .ensures) ∙ not-false _ (c .before .before .if1 .left))
+is-formed-requires : tie.Need-is-formed-requires
+is-formed-requires c κs =
+    let c₁ = c .before .before .before .before .before .before in
+    eqb-true _ _ (sym (c₁ .before .before .before .right-length .ensures) ∙ not-false _ (c₁ .before .before .if1 .left))
 
 same-length-3 : tie.Need-same-length-3
 same-length-3 c = search needs
 
 returns-3 : tie.Need-returns-3
 returns-3 c =
-    let c₁ = c .before .before .before in let a = c₁ .before .before .before .before .before .before .before in
-    Calling.no-9 (a .args .config) (a .args .room) (a .args .state .now) (a .args .rec .now) (a .args .answer .now)
+    let c₁ = c .before .before .before .before .before .before .before .before .before in
+    let a = c₁ .before .before .before .before .before .before .before in
+    Calling.no-9 (a .args .t1) (a .args .room) (a .args .state .now) (a .args .rec .now) (a .args .answer .now)
     (a .pre .1) (c₁ .before .before .right-length .ensures) (not-false _ (c₁ .before .if1 .left)) (c₁ .if2 .left)
-    (c .before .well-formed .ensures) (not-true _ (c .if3 .taken))
+    (whole-formed _ (a .args .t1) _ _ (c .before .is-formed .ensures)) (not-true _ (c .if3 .taken))
 
 read-operation-requires : tie.Need-read-operation-requires
 read-operation-requires c κs = search needs
@@ -54,19 +57,23 @@ same-length-4 c = search needs
 
 returns-4 : tie.Need-returns-4
 returns-4 c =
-    let c₁ = c .before .before .before in let c₂ = c₁ .before .before .before .before in
+    let c₁ = c .before .before .before in
+    let c₂ = c₁ .before .before .before .before .before .before .before .before .before .before in
     let a = c₂ .before .before .before .before .before .before .before in
-    Calling.no-10 (a .args .config) (a .args .room) (a .args .state .now) (a .args .rec .now) (a .args .answer .now)
+    Calling.no-10 (a .args .t1) (a .args .room) (a .args .state .now) (a .args .rec .now) (a .args .answer .now)
     (a .pre .1) (c₂ .before .before .right-length .ensures) (not-false _ (c₂ .before .if1 .left)) (c₂ .if2 .left)
-    (c₁ .before .before .well-formed .ensures) (not-false _ (c₁ .before .if3 .left)) (c₁ .read-operation .ensures .0)
+    (whole-formed _ (a .args .t1) _ _ (c₁ .before .before .is-formed .ensures))
+    (not-false _ (c₁ .before .if3 .left)) (c₁ .read-operation .ensures .0)
     (c₁ .read-operation .ensures .1) (c .before .if4 .taken)
 
 judge-all-requires : tie.Need-judge-all-requires
 judge-all-requires c κs =
-    let c₁ = c .before .before .before .before in let c₂ = c₁ .before .before .before .before .before in
+    let c₁ = c .before .before .before .before in
+    let c₂ = c₁ .before .before .before .before .before .before .before .before .before .before .before in
     let a = c₂ .before .before .before .before .before .before in (
-      Readying.ready-of (a .args .config) (a .args .room) (a .args .state .now) (a .pre .0) (a .pre .1)
-          (c₂ .before .right-length .ensures) (not-false _ (c₂ .if1 .left)) (c₁ .before .before .well-formed .ensures)
+      Readying.ready-of (a .args .t1) (a .args .room) (a .args .state .now) (a .pre .0) (a .pre .1)
+          (c₂ .before .right-length .ensures) (not-false _ (c₂ .if1 .left))
+          (whole-formed _ (a .args .t1) _ _ (c₁ .before .before .is-formed .ensures))
           (not-false _ (c₁ .before .if3 .left)),
       Readying.complete-of (a .args .rec .now) (c₁ .read-operation .ensures .0) (c₁ .read-operation .ensures .1)
           (c .before .before .if4 .left),
@@ -81,21 +88,24 @@ same-length-5 c = search needs
 returns-5 : tie.Need-returns-5
 returns-5 c =
     let c₁ = c .before .before .before .before in let c₂ = c₁ .before .before .before in
-    let c₃ = c₂ .before .before .before in let a = c₃ .before .before .before .before .before .before .before in
-    Calling.no-11 (a .args .config) (a .args .room) (a .args .state .now) (a .args .rec .now) (a .args .answer .now)
+    let c₃ = c₂ .before .before .before .before .before .before .before .before .before in
+    let a = c₃ .before .before .before .before .before .before .before in
+    Calling.no-11 (a .args .t1) (a .args .room) (a .args .state .now) (a .args .rec .now) (a .args .answer .now)
     (a .pre .1) (c₃ .before .before .right-length .ensures) (not-false _ (c₃ .before .if1 .left)) (c₃ .if2 .left)
-    (c₂ .before .well-formed .ensures) (not-false _ (c₂ .if3 .left)) (c₁ .before .before .read-operation .ensures .0)
+    (whole-formed _ (a .args .t1) _ _ (c₂ .before .is-formed .ensures))
+    (not-false _ (c₂ .if3 .left)) (c₁ .before .before .read-operation .ensures .0)
     (c₁ .before .before .read-operation .ensures .1) (c₁ .if4 .left) (c .before .judge-all .ensures) (c .if5 .taken)
 
 carry-out-requires : tie.Need-carry-out-requires
 carry-out-requires c κs =
     let c₁ = c .before .before .before in let c₂ = c₁ .before .before .before in
-    let c₃ = c₂ .before .before .before in let c₄ = c₃ .before .before .before in
+    let c₃ = c₂ .before .before .before in
+    let c₄ = c₃ .before .before .before .before .before .before .before .before .before in
     let a = c₄ .before .before .before .before .before .before .before in
-    Readying.passed-fit (a .args .config) (a .args .room) (a .args .state .now) (a .args .answer .now) _
-    (Readying.ready-of (a .args .config) (a .args .room) (a .args .state .now) (a .pre .0) (a .pre .1)
+    Readying.passed-fit (a .args .t1) (a .args .room) (a .args .state .now) (a .args .answer .now) _
+    (Readying.ready-of (a .args .t1) (a .args .room) (a .args .state .now) (a .pre .0) (a .pre .1)
     (c₄ .before .before .right-length .ensures) (not-false _ (c₄ .before .if1 .left))
-    (c₃ .before .well-formed .ensures) (not-false _ (c₃ .if3 .left)))
+    (whole-formed _ (a .args .t1) _ _ (c₃ .before .is-formed .ensures)) (not-false _ (c₃ .if3 .left)))
     (Readying.complete-of (a .args .rec .now) (c₂ .before .before .read-operation .ensures .0)
     (c₂ .before .before .read-operation .ensures .1) (c₂ .if4 .left)) (c₁ .judge-all .ensures)
     (c .before .before .if5 .left) (c₄ .if2 .left)
@@ -110,10 +120,12 @@ returns-6 : tie.Need-returns-6
 returns-6 c =
     let c₁ = c .before .before .before .before in let c₂ = c₁ .before .before .before in
     let c₃ = c₂ .before .before .before .before in let c₄ = c₃ .before .before .before in
-    let c₅ = c₄ .before .before .before in let a = c₅ .before .before .before .before .before .before .before in
-    Calling.done (a .args .config) (a .args .room) (a .args .state .now) (a .args .rec .now) (a .args .answer .now)
+    let c₅ = c₄ .before .before .before .before .before .before .before .before .before in
+    let a = c₅ .before .before .before .before .before .before .before in
+    Calling.done (a .args .t1) (a .args .room) (a .args .state .now) (a .args .rec .now) (a .args .answer .now)
     (a .pre .1) (c₅ .before .before .right-length .ensures) (not-false _ (c₅ .before .if1 .left)) (c₅ .if2 .left)
-    (c₄ .before .well-formed .ensures) (not-false _ (c₄ .if3 .left)) (c₃ .before .before .read-operation .ensures .0)
+    (whole-formed _ (a .args .t1) _ _ (c₄ .before .is-formed .ensures))
+    (not-false _ (c₄ .if3 .left)) (c₃ .before .before .read-operation .ensures .0)
     (c₃ .before .before .read-operation .ensures .1) (c₃ .if4 .left) (c₂ .before .judge-all .ensures) (c₂ .if5 .left)
     (c₁ .carry-out .ensures .0) (c₁ .carry-out .ensures .1)
 
@@ -126,7 +138,7 @@ operate-on-spec =
     returns
     same-length-2
     returns-2
-    well-formed-requires
+    is-formed-requires
     same-length-3
     returns-3
     read-operation-requires
