@@ -16,6 +16,7 @@ import unittest
 from dataclasses import replace
 from html import unescape
 from pathlib import Path
+from unittest import mock
 
 import sorters
 from common import PROGRAM, ROOT, InFolder, plan
@@ -71,6 +72,21 @@ class Page(InFolder):
         self.assertIn("The line is refused by question 6", text)
         self.assertFalse((self.visit / "page.html").exists())
 
+    def test_an_empty_plan(self):
+        for words in (("new", "monday"), ("page", "monday"), ("timeline", "monday")):
+            self.assertEqual(plan(*words)[0], 0, words)
+        page = Path("monday/page.html").read_text(encoding="utf-8")
+        self.assertEqual([key for _, key, _ in STOP.findall(page)], ["start"])
+
+    def test_a_refusal_without_a_chain(self):
+        """The page is still made; the row is a cause, and nothing is made up."""
+        with mock.patch("planner.reach.outside_chain", return_value=None):
+            self.assertEqual(plan("page", "examples/visit")[0], 0)
+        page = (self.visit / "page.html").read_text(encoding="utf-8")
+        looks, _, html = next(stop for stop in STOP.findall(page) if stop[1] == "row-17")
+        self.assertEqual((looks, html.count('class="link"')), ("refused cause", 0))
+        self.assertIn("could not be explained", html)
+
     def test_fingerprint(self):
         """The very digests that sha256sum prints of the files that were judged."""
         plan("check", "examples/visit")
@@ -97,6 +113,7 @@ class Page(InFolder):
         self.assertEqual([key for _, key, _ in found],
                          [f"bringup-{step.move.row}" for step in judged.failed_bringup] + ["start"] +
                          [f"row-{step.move.row}" for step in judged.visit])
+        States.leads_to_the_book(self, judged)
 
 
 class Script(unittest.TestCase):
@@ -182,15 +199,21 @@ class States(unittest.TestCase):
         plans = [judge_moves(PROGRAM, config, random_visit(config, seed))
                  for seed in range(30) for config in [random_line(seed)]]
         shown = 0
-        for judged in plans + [example()]:
-            data = json.loads(json.dumps(page_data(judged)))
-            for stop, step in zip(data["stops"], stops(judged)):
-                wanted = shown_state(judged, step) if step else judged.visit[0].before
-                self.same(judged.config, data, self.at(data, stop), wanted)
-                shown += 1
+        for judged in plans + [example(), judge_folder(PROGRAM, ROOT / "examples" / "today")]:
+            shown += States.leads_to_the_book(self, judged)
         self.assertGreater(shown, 1000)
 
-    def at(self, data, stop):
+    @staticmethod
+    def leads_to_the_book(test, judged):
+        """Holds every stop of a plan to the book; how many there are."""
+        data = json.loads(json.dumps(page_data(judged)))
+        for stop, step in zip(data["stops"], stops(judged)):
+            wanted = shown_state(judged, step) if step else judged.visit[0].before
+            States.same(test, judged.config, data, States.at(data, stop), wanted)
+        return len(data["stops"])
+
+    @staticmethod
+    def at(data, stop):
         state = {"partition": {}, "driver": {}, "card": {}, "object": {}, "holds": dict(enumerate(data["held"], 1))}
         here = [] if stop["step"] is None else [data["steps"][stop["step"]]]
         before = data["steps"][:stop["step"] if here else stop["done"]]
@@ -199,12 +222,13 @@ class States(unittest.TestCase):
                 state[sort][number] = value
         return state
 
-    def same(self, config, data, state, wanted):
+    @staticmethod
+    def same(test, config, data, state, wanted):
         for sort, there in (("driver", wanted.drivers), ("card", wanted.devices), ("object", wanted.objects)):
-            self.assertEqual({n: state[sort].get(n, 0) for n in there}, there)
+            test.assertEqual({n: state[sort].get(n, 0) for n in there}, there)
         standing = {n: 2 if n in wanted.destroyed else 1 for n in wanted.created}
-        self.assertEqual(state["partition"], standing)
-        self.assertEqual({n: data["words"][state["holds"][n]] for n in config.objects},
+        test.assertEqual(state["partition"], standing)
+        test.assertEqual({n: data["words"][state["holds"][n]] for n in config.objects},
                          {n: contents(config, n, wanted) for n in config.objects})
 
 

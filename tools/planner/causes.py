@@ -52,7 +52,9 @@ def origins(plan):
 
 
 def trace(config, worlds, step, failed):
-    """The origin of a refusal, and the worlds in which it, too, would be done."""
+    """The origin of a refusal, and the worlds in which it, too, would be done. What nothing explains is a cause."""
+    if not failed:
+        return Origin(), []
     left = [(world, remaining(config, world.state, step, failed)) for world in worlds]
     alone = [world for world, stays in left if not stays]
     if alone:

@@ -84,8 +84,8 @@ def summary_html(plan, origins):
     refused = [step for step in plan.steps if not step.accepted]
     of_visit = sum(not step.accepted for step in steps)
     text = f"{plural(len(steps), 'move')}: {len(steps) - of_visit} accepted, {of_visit} refused."
-    if len(refused) > of_visit:
-        text += f" Of the bring-up, {plural(len(refused) - of_visit, 'move')} refused."
+    if plan.failed_bringup:
+        text += f" Of the bring-up {len(plan.failed_bringup)} refused."
     causes = [step for step in refused if not origins[step.place].causes]
     shown = []
     for cause in causes:
