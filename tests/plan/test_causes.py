@@ -75,6 +75,11 @@ class Cases(unittest.TestCase):
         self.assertEqual((answers, causes), ([14, 14, 14, 0, 14], {2: [], 3: [2], 4: [], 6: [4]}))
         self.assertTrue(all(origin.same for origin in origins(plan).values() if origin.causes))
 
+    def test_what_comes_of_the_same_failure(self):
+        """Had the partition been there, the card of row 3 would be in it, and could leave in row 4."""
+        _, answers, causes = on_example((7, 1, 1, ()), (8, 1, 1, ()), (11, 1, 0, ()))
+        self.assertEqual((answers, causes), ([14, 14, 16], {2: [], 3: [2], 4: [2]}))
+
     def test_two_causes_together(self):
         """Two external objects are each kept out by a row of their own; taking both away comes of both."""
         up = (5, 0, 1, ()), (5, 0, 2, ()), (9, 0, 2, (14, 15))

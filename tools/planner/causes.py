@@ -1,8 +1,9 @@
 """Which refusals come of others: a refused row whose failure an earlier refused row would have kept away.
 
 The answers are the program's. For each refused row that comes of no other, a cause, the book is kept a second time, as
-if that row had been done, and what came of it too. A later refused row comes of the cause if, in that book, it gets
-past the question that it failed on. It is told apart from causes also if it fails on the very same as one of them.
+if that row had been done. A later refused row comes of the cause if, in that book, it gets past the question that it
+failed on. It is told apart from causes also if it fails on the very same as one of them. Either way it is then taken
+for done there, too.
 """
 from dataclasses import dataclass
 
@@ -64,7 +65,7 @@ def trace(config, worlds, step, failed):
         return Origin(tuple(world.cause for world, _ in parts)), [world for world, _ in parts]
     same = [world for world in worlds if (world.cause.answer, world.failed) == (step.answer, failed)
             and since(world.cause.before, failed) == since(step.before, failed)]
-    return (Origin((same[-1].cause,), True), []) if same else (Origin(), [])
+    return (Origin((same[-1].cause,), True), same[-1:]) if same else (Origin(), [])
 
 
 def remaining(config, state, step, failed):
