@@ -8,7 +8,7 @@ import subprocess
 import tempfile
 import time
 
-SECONDS = 30
+SECONDS = 60
 ENDED = 10
 FLAGS = ("--headless=new", "--no-sandbox", "--disable-gpu", "--disable-dev-shm-usage", "--no-first-run",
          "--disable-extensions", "--disable-background-networking", "--hide-scrollbars", "--remote-debugging-pipe")

@@ -72,7 +72,7 @@ class Walk(unittest.TestCase):
 
     def at(self, row):
         """A link is followed a moment after the click."""
-        end = time.monotonic() + 2
+        end = time.monotonic() + 10
         while self.browser.value(CHOSEN) != f"row-{row}" and time.monotonic() < end:
             time.sleep(0.02)
         self.assertEqual(self.browser.value(CHOSEN), f"row-{row}")
@@ -229,7 +229,7 @@ class Walk(unittest.TestCase):
             self.browser.click("#fold")
             again.write_text(page_html(self.plans["example"], "after", watched), encoding="utf-8")
             self.browser.value("window.dispatchEvent(new Event('blur')); window.dispatchEvent(new Event('focus')); 0")
-            end = time.monotonic() + (5 if watched else 0.5)
+            end = time.monotonic() + (20 if watched else 0.5)
             while self.title() != "after" and time.monotonic() < end:
                 time.sleep(0.02)
             self.assertEqual(self.title(), "after" if watched else "before")
