@@ -194,3 +194,8 @@ counts-quick s e d v n k h p q r t u z =
       field-one s 3 0 mostObjects n (omega arith) t (omega (arith, n2, top)) (omega arith) (omega (arith, n2, top)),
       field-one s 4 0 mostValues k (omega arith) u (omega (arith, k2)) (omega arith) k2,
     )
+
+-- a byte in its field's range
+pub field-quick : (s : List ℕ) (at low high : ℕ) → at < length s → getD s at 0 < oneByte → low ≤ getD s at 0
+    → getD s at 0 ≤ high → Value (getD s at 0) (at + 1) ≡ fieldAt s at low high
+field-quick s at low high h small p q = sym (field-one s at low high (getD s at 0) h refl small p q)

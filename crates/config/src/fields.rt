@@ -83,3 +83,20 @@ pub fn read_field(s: &[u8], at: usize, low: u8, high: u8) -> Field
     }
     Field::Value(v as u8, next)
 }
+
+// The same. Most numbers have one byte.
+pub fn quick_field(s: &[u8], at: usize, low: u8, high: u8) -> Field
+    ensures { λ r. ⌜ r ≡ fieldAt (now (s .entry)) at low high ⌝ }
+{
+    if at < s.len() {
+        let b = s[at];
+        if b < ONE_BYTE {
+            if low <= b {
+                if b <= high {
+                    return Field::Value(b, at + 1);
+                }
+            }
+        }
+    }
+    read_field(s, at, low, high)
+}

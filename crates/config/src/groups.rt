@@ -10,6 +10,7 @@ ghost use Rattle.config.specs.Columns.{objectsOf, devicesOf, progress, W
 ghost use Rattle.config.specs.Quick.{isOwner, isObject, countsFit};
 use crate::fields::field_question;
 use crate::fields::one_byte_most;
+use crate::fields::quick_field;
 use crate::fields::reach;
 use crate::fields::read_field;
 use model::Counts;
@@ -261,7 +262,7 @@ fn read_device(
         ⌜ progress r (devicesOf (now (hardcoded .exit)))
         ≡ device (now (s .entry)) counts v at (devicesOf (now (hardcoded .entry))) ⌝ }
 {
-    let f = read_field(s, at, 0, counts.values);
+    let f = quick_field(s, at, 0, counts.values);
     let Field::Value(w, next) = f else {
         return refused(f);
     };

@@ -8,6 +8,7 @@ ghost use Rattle.config.specs.Columns.{valuesOf, progress, Within};
 ghost use lib.Dec.{leb};
 ghost use Rattle.config.specs.Quick.{namesObject};
 use crate::fields::one_byte_most;
+use crate::fields::quick_field;
 use crate::fields::reach;
 use crate::fields::read_field;
 use crate::groups::refused;
@@ -175,7 +176,7 @@ fn read_value(
         ≡ value (now (s .entry)) counts (now (kinds .entry)) v at
         (valuesOf (now (count .entry)) (now (entries .entry))) ⌝ }
 {
-    let f = read_field(s, at, 0, MOST_ENTRIES);
+    let f = quick_field(s, at, 0, MOST_ENTRIES);
     let Field::Value(n, next) = f else {
         return refused(f);
     };

@@ -7,8 +7,8 @@ use Rattle.config.proofs.Laws
 use Rattle.config.proofs.groups.read_device.Statement.{statement}
 use Rattle.config.proofs.groups.read_device.Tie as tie
 
-read-field-requires : tie.Need-read-field-requires
-read-field-requires c κs = search needs
+quick-field-requires : tie.Need-quick-field-requires
+quick-field-requires c κs = search needs
 
 enum-known-f : tie.Need-enum-known-f
 enum-known-f c = search needs
@@ -22,7 +22,7 @@ refused-requires c κs = search needs
 returns : tie.Need-returns
 unfolding device stop read setDevice
 returns c =
-    Laws.on-stop _ _ _ (c .before .before .before .read-field .ensures) (c .before .enum-told .given .1)
+    Laws.on-stop _ _ _ (c .before .before .before .quick-field .ensures) (c .before .enum-told .given .1)
     (rw (c .refused .ensures))
 
 element-write-hardcoded : tie.Need-element-write-hardcoded
@@ -30,14 +30,14 @@ element-write-hardcoded c = search needs
 
 returns-2 : tie.Need-returns-2
 unfolding device stop read setDevice
-returns-2 c = Laws.on-go _ _ _ (c .before .before .before .read-field .ensures) (c .before .f .given .1)
+returns-2 c = Laws.on-go _ _ _ (c .before .before .before .quick-field .ensures) (c .before .f .given .1)
     (refl)
 
 pub read-device-spec : {M : Type 1} → statement M
 read-device-spec =
     tie.close
     (tie.spec
-    read-field-requires
+    quick-field-requires
     enum-known-f
     enum-told
     refused-requires

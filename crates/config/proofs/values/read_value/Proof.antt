@@ -5,8 +5,8 @@ use Rattle.config.proofs.Laws
 use Rattle.config.proofs.values.read_value.Statement.{statement}
 use Rattle.config.proofs.values.read_value.Tie as tie
 
-read-field-requires : tie.Need-read-field-requires
-read-field-requires c κs = search needs
+quick-field-requires : tie.Need-quick-field-requires
+quick-field-requires c κs = search needs
 
 enum-known-f : tie.Need-enum-known-f
 enum-known-f c = search needs
@@ -20,7 +20,7 @@ refused-requires c κs = search needs
 returns : tie.Need-returns
 unfolding value stop setCount
 returns c =
-    Laws.on-stop _ _ _ (c .before .before .before .read-field .ensures) (c .before .enum-told .given .1)
+    Laws.on-stop _ _ _ (c .before .before .before .quick-field .ensures) (c .before .enum-told .given .1)
     (rw (c .refused .ensures))
 
 element-write-count : tie.Need-element-write-count
@@ -28,14 +28,14 @@ element-write-count c = search needs
 
 read-entries-requires : tie.Need-read-entries-requires
 read-entries-requires c κs =
-    let h = Laws.field-most _ _ _ _ (c .before .before .before .before .read-field .ensures)
+    let h = Laws.field-most _ _ _ _ (c .before .before .before .before .quick-field .ensures)
     (c .before .before .f .given .1) in let a = c .before .before .before .before .before .before in
     ((a .pre .0, h), a .pre .1)
 
 returns-2 : tie.Need-returns-2
 unfolding value stop setCount
 returns-2 c =
-    Laws.on-go _ _ _ (c .before .before .before .before .before .read-field .ensures)
+    Laws.on-go _ _ _ (c .before .before .before .before .before .quick-field .ensures)
     (c .before .before .before .f .given .1)
     (c .read-entries .ensures _)
 
@@ -43,7 +43,7 @@ pub read-value-spec : {M : Type 1} → statement M
 read-value-spec =
     tie.close
     (tie.spec
-    read-field-requires
+    quick-field-requires
     enum-known-f
     enum-told
     refused-requires
