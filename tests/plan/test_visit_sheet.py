@@ -131,6 +131,11 @@ class Sheets(InFolder):
 
 
 class Meanwhile(InFolder):
+    def test_a_card_belongs_where_it_is_first_brought(self):
+        """In a visit that brings the line up itself; the cards that are not yet in are not out."""
+        judged = judge_folder(PROGRAM, self.visit)
+        self.assertEqual(cards_out(judged), [Span("Scale, out of Live loop", 12, 19)])
+
     def test_of_many_cards_those_that_rest_are_named(self):
         cards = "".join(f"C{n},cleared\n" for n in range(1, 17))
         objects = "".join(f"W{n},hard-wired,C{n}\n" for n in range(1, 17))

@@ -47,13 +47,13 @@ def meanwhile_words(config, step):
                      for place in sorted(found))
 
 
-def spans(states, holds, what):
-    """The spans in which something holds; `states` are those before the first step and after each."""
+def spans(holding, what):
+    """The spans in which something holds; `holding` says it of the states before the first step and after each."""
     found, since = [], None
-    for number, state in enumerate(states):
-        if holds(state) and since is None:
+    for number, holds in enumerate(holding):
+        if holds and since is None:
             since = number
-        elif not holds(state) and since is not None:
+        elif not holds and since is not None:
             found.append(Span(what, since, number))
             since = None
     return found + ([Span(what, since)] if since is not None else [])
@@ -68,18 +68,20 @@ def shut_zones(plan):
     """Each zone while it exists and no card is in it."""
     states, found = states_of(plan), []
     for zone in sorted({number for state in states for number in state.created}):
-        found += spans(states, lambda state: state.exists(zone) and zone not in state.devices.values(),
-                       plan.config.partition(zone))
+        empty = [state.exists(zone) and zone not in state.devices.values() for state in states]
+        found += spans(empty, plan.config.partition(zone))
     return found
 
 
 def cards_out(plan):
-    """Each card that was at work before the visit, while it is not where it was."""
+    """Each card while it is not where it belongs: where it was before the visit, or else where it is first brought."""
     states, found = states_of(plan), []
-    for device, home in states[0].devices.items() if states else ():
-        if home != NONE:
-            found += spans(states, lambda state: state.devices[device] != home,
-                           f"{plan.config.device(device)}, out of {plan.config.partition(home)}")
+    for device in plan.config.devices:
+        places = [state.devices[device] for state in states]
+        home = next((place for place in places if place != NONE), NONE)
+        there = places.index(home) if home != NONE else len(places)
+        found += spans([number > there and place != home for number, place in enumerate(places)],
+                       f"{plan.config.device(device)}, out of {plan.config.partition(home)}")
     return found
 
 

@@ -68,7 +68,8 @@ def zones(plan):
     parts = []
     for title, what, found in (
             ("Zones that are shut", "A zone is shut while no card is in it: nothing moves there.", shut_zones(plan)),
-            ("Cards that are out", "A card is out while it is not where it was before the visit.", cards_out(plan))):
+            ("Cards that are out", "A card is out while it is not where it was before the visit, or else where "
+             "it was first brought.", cards_out(plan))):
         rows = [f"<tr><td>{escape(span.what)}</td><td>{span_words(span)}</td></tr>" for span in found]
         table = ["<table><tbody>", *rows, "</tbody></table>"] if rows else ["<p>None.</p>"]
         parts += [f"<h2>{title}</h2>", f"<p>{what}</p>", *table]
