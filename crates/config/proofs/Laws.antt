@@ -181,9 +181,9 @@ module _ (s : List ℕ) {h : Head} (e : h ≡ countsAt s) where
 
 -- questions 4, 5 and 6, by the first that is answered with no
 module _ (s : List ℕ) (at : ℕ) (config : Config) where
-  pub left-over : (at ≡ length s → ⊥) → 4 ≡ restNo s at config
-  unfolding restNo
-  left-over h = rw (ne-eqb at (length s) h)
+  pub left-over : {r : Loaded} → (at ≡ length s → ⊥) → r ≡ refused 4 → r ≡ judged s at config
+  unfolding judged ask
+  left-over h p = rw (p, ne-eqb at (length s) h)
 
   pub all-read : {a b : Bool} {q : ℕ} → at ≡ length s → a ≡ paired config → b ≡ restrained config
       → q ≡ firstNo a 5 b 6 → q ≡ restNo s at config

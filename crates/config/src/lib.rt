@@ -73,32 +73,6 @@ fn first_no(a: bool, p: u8, b: bool, q: u8) -> u8
     if b { 0 } else { q }
 }
 
-// The number of the first question among 4, 5 and 6 that a file read up to `at` answers with no, or 0.
-fn judge<'a>(
-    s: &[u8],
-    at: usize,
-    counts: Counts,
-    kind: &'a [u8; OBJECT_SLOTS],
-    class: &'a [u8; OBJECT_SLOTS],
-    owner: &'a [u8; OBJECT_SLOTS],
-    hardcoded: &'a [u8; DEVICE_SLOTS],
-    count: &'a [u8; VALUE_SLOTS],
-    entries: &'a [u8; ENTRY_SLOTS],
-) -> u8
-    requires { ⌜ Within counts ⌝ }
-    ensures { λ r.
-        ⌜ r ≡ restNo (now (s .entry)) at
-        (configOf counts (now (kind .entry)) (now (class .entry)) (now (owner .entry))
-        (now (hardcoded .entry)) (now (count .entry)) (now (entries .entry))) ⌝ }
-{
-    if at != s.len() {
-        return 4;
-    }
-    let paired = sound::is_paired(counts, kind, class, owner);
-    let restrained = sound::is_restrained(counts, kind, class, owner, hardcoded, count, entries);
-    first_no(paired, 5, restrained, 6)
-}
-
 fn accept(
     counts: Counts,
     kind: [u8; OBJECT_SLOTS],
@@ -159,9 +133,12 @@ pub fn load(file: &[u8]) -> Loaded
     let Reading::At(end) = r else {
         return refuse(fields::reading_question(r));
     };
-    let no = judge(
-        file,
-        end,
+    if end != file.len() {
+        return refuse(4);
+    }
+    let mut owned = [0u8; DEVICE_SLOTS];
+    let paired = sound::is_paired(counts, &kind, &class, &owner, &mut owned);
+    let restrained = sound::is_restrained(
         counts,
         &kind,
         &class,
@@ -170,6 +147,7 @@ pub fn load(file: &[u8]) -> Loaded
         &count,
         &table.entries,
     );
+    let no = first_no(paired, 5, restrained, 6);
     if no != 0 {
         return refuse(no);
     }

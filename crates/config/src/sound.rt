@@ -3,7 +3,7 @@ ghost use mathlib.Core.Path.{_≡_};
 ghost use mathlib.Core.Bool.{not, _||_};
 ghost use Prim.Native.Nat.{suc, _+_, _*_, _≤_};
 ghost use lib.Dec.{eqb};
-ghost use lib.ListN.{length, getD};
+ghost use lib.ListN.{length, getD, replicate};
 ghost use Rattle.model.specs.Config.{mostDevices, mostObjects, entryBytes, entryAt};
 ghost use Rattle.model.specs.ConfigFile.{restrained};
 ghost use Rattle.config.specs.Columns.{configOf, Within};
@@ -66,26 +66,28 @@ fn each_has_one(owned: &[u8; DEVICE_SLOTS], n: u8) -> bool
     true
 }
 
-// Question 5, in one pass over the objects.
+// Question 5, in one pass over the objects. The devices' counts are made in `owned`, which is lent with zeros: a table
+// of its own would stand below the stack pointer, for this function calls nothing.
 pub fn is_paired<'a>(
     counts: Counts,
     kind: &'a [u8; OBJECT_SLOTS],
     class: &'a [u8; OBJECT_SLOTS],
     owner: &'a [u8; OBJECT_SLOTS],
+    owned: &mut [u8; DEVICE_SLOTS],
 ) -> bool
     requires { ⌜ Within counts ⌝ }
+    requires { ⌜ now owned ≡ replicate (suc mostDevices) 0 ⌝ }
     ensures { λ r. ⌜ r ≡ pairedBy counts (now (kind .entry)) (now (class .entry)) (now (owner .entry)) ⌝ }
 {
     let end = counts.objects as usize;
-    let mut owned = [0u8; DEVICE_SLOTS];
     let mut i: usize = 0;
     while i < end {
         i += 1;
-        if !note(&mut owned, kind[i], class[i], owner[i]) {
+        if !note(owned, kind[i], class[i], owner[i]) {
             return false;
         }
     }
-    each_has_one(&owned, counts.devices)
+    each_has_one(&*owned, counts.devices)
 }
 
 // The hardcoded value of device v may name object o by this mode.

@@ -1,8 +1,10 @@
 -- `config::load` meets its contract: each group that goes on is a `group-go`, the one that is refused a `group-stop`;
 -- then the first no among questions 4 to 6 decides. Assumes nothing.
+use mathlib.Core.Path.{refl, _∙_}
 use borrow.Author.Needs.{needs}
 use Rattle.model.specs.ConfigFile.{groupsFrom, objectsAt, devicesAt, valuesAt}
 use Rattle.config.proofs.Laws
+use Rattle.config.proofs.Questions
 use Rattle.config.proofs.load.Statement.{statement}
 use Rattle.config.proofs.load.Tie as tie
 
@@ -122,66 +124,88 @@ returns-4 c =
     (c .before .before .enum-told4 .given .1) (rw (← c .before .reading-question3 .ensures) (c .refuse4
     .ensures)))))
 
-judge-requires : tie.Need-judge-requires
-judge-requires c κs =
-    Laws.counts-within _ (c .before .before .before .before .before .before .before .before .before .before
-    .before .before .before .before .before .before .before .before .before .before .before .before .before
-    .before .before .before .before .before .before .read-counts .ensures)
-    (c .before .before .before .before .before .before .before .before .before .before .before .before .before
-    .before .before .before .before .before .before .before .before .before .before .before .before .before
-    .before .head .given .1)
-
 refuse-requires-5 : tie.Need-refuse-requires-5
 refuse-requires-5 c κs = search needs
 
 returns-5 : tie.Need-returns-5
 unfolding groupsFrom objectsAt devicesAt valuesAt
 returns-5 c =
-    Laws.load-go _ (c .before .before .before .before .before .before .before .before .before .before .before
-    .before .before .before .before .before .before .before .before .before .before .before .before .before
-    .before .before .before .before .before .before .before .before .read-counts .ensures)
-    (c .before .before .before .before .before .before .before .before .before .before .before .before .before
-    .before .before .before .before .before .before .before .before .before .before .before .before .before
-    .before .before .before .before .head .given .1)
-    (Laws.group-go _ _ (c .before .before .before .before .before .before .before .before .before .before .before
-    .before .before .before .before .before .before .before .before .before .before .before .before .before
-    .before .read-objects .ensures)
-    (c .before .before .before .before .before .before .before .before .before .before .before .before .before
-    .before .before .before .before .before .before .before .before .before .before .p .given .1)
-    (Laws.group-go _ _ (c .before .before .before .before .before .before .before .before .before .before .before
-    .before .before .before .before .before .before .before .before .before .read-devices .ensures)
-    (c .before .before .before .before .before .before .before .before .before .before .before .before .before
-    .before .before .before .before .before .q .given .1)
-    (Laws.group-go _ _ (c .before .before .before .before .before .before .before .before .before .before .before
-    .before .before .read-values .ensures)
-    (c .before .before .before .before .before .before .before .before .before .before .before .r .given .1)
-    (Laws.not-sound _ _ _ (c .before .before .judge .ensures) (c .before .if1 .taken) (c .refuse5 .ensures)))))
+    let i = c .before in
+    let v = i .before .before .before .before in
+    let d = v .before .before .before .before .before .before .before in
+    let o = d .before .before .before .before .before in
+    let n = o .before .before .before .before .before .before .before in
+    Laws.load-go _ (n .read-counts .ensures) (o .before .before .before .before .before .head .given .1)
+    (Laws.group-go _ _ (o .read-objects .ensures) (d .before .before .before .p .given .1)
+    (Laws.group-go _ _ (d .read-devices .ensures) (v .before .before .before .before .before .q .given .1)
+    (Laws.group-go _ _ (v .read-values .ensures) (i .before .before .r .given .1)
+    (Laws.left-over _ _ _ (i .if1 .taken) (c .refuse5 .ensures)))))
 
-accept-requires : tie.Need-accept-requires
-accept-requires c κs = search needs
+is-paired-requires : tie.Need-is-paired-requires
+is-paired-requires c κs =
+    let o = c .before .before .before .before .before .before .before .before .before .before .before .before
+    .before .before .before .before .before .before .before .before in (
+      Laws.counts-within _ (o .before .before .before .before .before .before .before .read-counts .ensures) (o
+          .before .before .before .before .before .head .given .1),
+      refl,
+    )
+
+is-restrained-requires : tie.Need-is-restrained-requires
+is-restrained-requires c κs =
+    let o = c .before .before .before .before .before .before .before .before .before .before .before .before
+    .before .before .before .before .before .before .before .before .before .before .before .before .before
+    .before .before .before in
+    Laws.counts-within _ (o .before .before .before .before .before .before .before .read-counts .ensures) (o
+    .before .before .before .before .before .head .given .1)
+
+first-no-requires : tie.Need-first-no-requires
+first-no-requires c κs = search needs
+
+refuse-requires-6 : tie.Need-refuse-requires-6
+refuse-requires-6 c κs = search needs
 
 returns-6 : tie.Need-returns-6
 unfolding groupsFrom objectsAt devicesAt valuesAt
 returns-6 c =
-    Laws.load-go _ (c .before .before .before .before .before .before .before .before .before .before .before
-    .before .before .before .before .before .before .before .before .before .before .before .before .before
-    .before .before .before .before .before .before .before .before .read-counts .ensures)
-    (c .before .before .before .before .before .before .before .before .before .before .before .before .before
-    .before .before .before .before .before .before .before .before .before .before .before .before .before
-    .before .before .before .before .head .given .1)
-    (Laws.group-go _ _ (c .before .before .before .before .before .before .before .before .before .before .before
-    .before .before .before .before .before .before .before .before .before .before .before .before .before
-    .before .read-objects .ensures)
-    (c .before .before .before .before .before .before .before .before .before .before .before .before .before
-    .before .before .before .before .before .before .before .before .before .before .p .given .1)
-    (Laws.group-go _ _ (c .before .before .before .before .before .before .before .before .before .before .before
-    .before .before .before .before .before .before .before .before .before .read-devices .ensures)
-    (c .before .before .before .before .before .before .before .before .before .before .before .before .before
-    .before .before .before .before .before .q .given .1)
-    (Laws.group-go _ _ (c .before .before .before .before .before .before .before .before .before .before .before
-    .before .before .read-values .ensures)
-    (c .before .before .before .before .before .before .before .before .before .before .before .r .given .1)
-    (Laws.accepts _ _ _ (c .before .before .judge .ensures) (c .before .if1 .left) (c .accept .ensures)))))
+    let f = c .before .before in
+    let j = f .before in
+    let a = j .before .before .before .before .before .before .before .before in
+    let i = a .before .before .before .before .before in
+    let v = i .before .before .before .before in
+    let d = v .before .before .before .before .before .before .before in
+    let o = d .before .before .before .before .before in
+    let n = o .before .before .before .before .before .before .before in
+    Laws.load-go _ (n .read-counts .ensures) (o .before .before .before .before .before .head .given .1)
+    (Laws.group-go _ _ (o .read-objects .ensures) (d .before .before .before .p .given .1)
+    (Laws.group-go _ _ (d .read-devices .ensures) (v .before .before .before .before .before .q .given .1)
+    (Laws.group-go _ _ (v .read-values .ensures) (i .before .before .r .given .1)
+    (Laws.not-sound _ _ _
+    (Laws.all-read _ _ _ (i .if1 .left)
+    (a .is-paired .ensures ∙ Questions.paired-same _) (j .is-restrained .ensures) (f .first-no .ensures))
+    (c .before .if2 .taken) (c .refuse6 .ensures)))))
+
+accept-requires : tie.Need-accept-requires
+accept-requires c κs = search needs
+
+returns-7 : tie.Need-returns-7
+unfolding groupsFrom objectsAt devicesAt valuesAt
+returns-7 c =
+    let f = c .before .before in
+    let j = f .before in
+    let a = j .before .before .before .before .before .before .before .before in
+    let i = a .before .before .before .before .before in
+    let v = i .before .before .before .before in
+    let d = v .before .before .before .before .before .before .before in
+    let o = d .before .before .before .before .before in
+    let n = o .before .before .before .before .before .before .before in
+    Laws.load-go _ (n .read-counts .ensures) (o .before .before .before .before .before .head .given .1)
+    (Laws.group-go _ _ (o .read-objects .ensures) (d .before .before .before .p .given .1)
+    (Laws.group-go _ _ (d .read-devices .ensures) (v .before .before .before .before .before .q .given .1)
+    (Laws.group-go _ _ (v .read-values .ensures) (i .before .before .r .given .1)
+    (Laws.accepts _ _ _
+    (Laws.all-read _ _ _ (i .if1 .left)
+    (a .is-paired .ensures ∙ Questions.paired-same _) (j .is-restrained .ensures) (f .first-no .ensures))
+    (c .before .if2 .left) (c .accept .ensures)))))
 
 pub load-spec : {M : Type 1} → statement M
 load-spec =
@@ -211,8 +235,12 @@ load-spec =
     reading-question-requires-3
     refuse-requires-4
     returns-4
-    judge-requires
     refuse-requires-5
     returns-5
+    is-paired-requires
+    is-restrained-requires
+    first-no-requires
+    refuse-requires-6
+    returns-6
     accept-requires
-    returns-6)
+    returns-7)

@@ -4,7 +4,7 @@ use Prim.Native.Nat.{suc, _+_, _≤_, _-_}
 use native.Mathlib.Omega.{arith}
 use borrow.Author.Tests.{not-true, not-false}
 use mathlib.Core.Bool.{true}
-use mathlib.Core.Path.{_≡_, refl, sym, _∙_}
+use mathlib.Core.Path.{_≡_, refl, sym, ap, subst, _∙_}
 use lib.ListN.{length, getD}
 use Rattle.model.specs.Config.{mostDevices}
 use Rattle.config.specs.Sound.{upTo, deviceOwned}
@@ -24,7 +24,13 @@ cast-end : tie.Need-cast-end Inv-loop μ-loop
 cast-end c = search needs
 
 loop-holds : tie.Need-loop-holds Inv-loop μ-loop
-loop-holds c = (search needs, refl, Questions.up-start _, Questions.counted-start _ _ _ (suc mostDevices))
+loop-holds c =
+    let zeros = c .before .pre .1 in (
+      search needs,
+      ap length zeros,
+      Questions.up-start _,
+      subst (Questions.Counted _ _ _ 0) (sym zeros) (Questions.counted-start _ _ _ (suc mostDevices)),
+    )
 
 add-i : tie.Need-add-i Inv-loop μ-loop
 add-i c = search needs
@@ -44,7 +50,7 @@ note-requires c κs =
     let w = getD (c .before .before .before .before .before .before .before .args .owner .now) (l .i + 1) 0 in (
       l .inv .1,
       Questions.counted-room _ _ _ _ w _ (l .owned) (c .before .before .before .before .loop-test .taken)
-          (c .before .before .before .before .before .before .before .pre .objects) (l .inv .3),
+          (c .before .before .before .before .before .before .before .pre .0 .objects) (l .inv .3),
     )
 
 returns : tie.Need-returns Inv-loop μ-loop
@@ -76,7 +82,7 @@ returns-2 c =
     Questions.paired-rest _ _ _ _ _ _ _ (c .before .before .before .loop .inv .0)
     (c .before .before .loop-test .left)
     (c .before .before .before .loop .inv .2) (c .before .before .before .loop .inv .3)
-    (omega (arith, c .before .before .before .loop .inv .1, c .before .before .before .before .before .pre .devices))
+    (omega (arith, c .before .before .before .loop .inv .1, c .before .before .before .before .before .pre .0 .devices))
     (c .each-has-one .ensures)
 
 pub is-paired-spec : {M : Type 1} → statement M
