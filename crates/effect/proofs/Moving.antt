@@ -6,7 +6,7 @@ use mathlib.Core.Bool.{Bool, true, false, not, _&&_, cond}
 use native.Mathlib.Numerals.{add-one}
 use native.Mathlib.Decide.{ℕ-discrete}
 use native.Mathlib.Omega.{arith}
-use lib.ListN.{length, getD, set, List·getD-eq-default}
+use lib.ListN.{length, getD, set}
 use lib.Seq.{set-getD}
 use lib.Dec.{eqb}
 use borrow.Author.Tests.{le-leb, lt-leb, eq-eqb, ne-eqb, not-true, not-false}
@@ -28,9 +28,6 @@ use Rattle.state.proofs.Places.{view-shape}
 use Rattle.state.proofs.Turns.{after-driver, after-device, after-object, after-content, upTo, done, up-none, up-all}
 
 -- tests
-pub number-out : (l : List ℕ) (i : ℕ) → length l ≤ i → 0 ≡ getD l i 0
-number-out l i h = sym (List·getD-eq-default l 0 h)
-
 module _ (kind : List ℕ) (n : ℕ) (clears : Bool) where
   pub clear-none : not clears ≡ true → false ≡ clearable clears kind n
   unfolding clearable

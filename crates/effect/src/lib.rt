@@ -1,5 +1,4 @@
 // What an accepted operation does to the state area and to the answer area.
-mod lists;
 mod moves;
 mod transfers;
 

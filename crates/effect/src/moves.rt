@@ -9,12 +9,12 @@ ghost use Rattle.model.specs.declared.Actor.{Actor};
 ghost use Rattle.model.specs.declared.Actor.the-variants.{Driver, Device, External};
 ghost use Rattle.model.specs.declared.Config.{Config};
 ghost use Rattle.effect.specs.Moves.{movedAt, clearable, ownedBy, listed, moved};
-use crate::lists::number_at;
 use model::Config;
 use model::DEVICE_CLASS;
 use model::DRIVER_CLASS;
 use model::HARDCODED_KIND;
 use model::Operation;
+use operation::columns::number_of;
 use state::DESTROYED;
 use state::EXISTING;
 use state::bytes::byte_at;
@@ -111,7 +111,7 @@ fn move_listed(
 {
     let mut i = 0;
     while i < count {
-        let n = number_at(list, i);
+        let n = number_of(list, i);
         let c = is_clearable(clears, kind, n);
         move_one(area, room, n, p, true, c);
         i += 1;

@@ -11,9 +11,9 @@ ghost use Rattle.model.specs.declared.Family.the-variants.{Write, Copy};
 ghost use Rattle.model.specs.declared.Actor.{Actor};
 ghost use Rattle.model.specs.declared.Config.{Config};
 ghost use Rattle.effect.specs.Transfers.{operationOf, itemOf, Small, written, sources, restored};
-use crate::lists::number_at;
 use model::CONTENT_BYTES;
 use model::Operation;
+use operation::columns::number_of;
 use state::bytes::load;
 use state::bytes::save;
 use state::bytes::value_bytes;
@@ -27,8 +27,8 @@ fn item<'a>(seconds: &'a [u32], forms: &'a [u32], raw: &'a [u8], i: usize) -> [u
     ensures { λ r.
         ⌜ r ≡ itemOf (operationOf [] (now (seconds .entry)) (now (forms .entry)) (now (raw .entry))) i ⌝ }
 {
-    if number_at(forms, i) == 0 {
-        let v = number_at(seconds, i);
+    if number_of(forms, i) == 0 {
+        let v = number_of(seconds, i);
         return value_bytes(v as u8);
     }
     load(raw, CONTENT_BYTES * i)
@@ -53,7 +53,7 @@ fn write_list<'a>(
 {
     let mut i = 0;
     while i < count {
-        let n = number_at(objects, i);
+        let n = number_of(objects, i);
         let c = item(seconds, forms, raw, i);
         store(area, room, n, c);
         i += 1;
@@ -70,7 +70,7 @@ fn read_out(area: &[u8], room: usize, objects: &[u32], count: usize, answer: &mu
 {
     let mut i = 0;
     while i < count {
-        let from = number_at(objects, i);
+        let from = number_of(objects, i);
         let c = content(area, room, from);
         save(answer, CONTENT_BYTES * i, c);
         i += 1;
@@ -86,7 +86,7 @@ fn store_copies(area: &mut [u8], room: usize, seconds: &[u32], count: usize, ans
 {
     let mut i = 0;
     while i < count {
-        let to = number_at(seconds, i);
+        let to = number_of(seconds, i);
         let c = load(answer, CONTENT_BYTES * i);
         store(area, room, to, c);
         i += 1;

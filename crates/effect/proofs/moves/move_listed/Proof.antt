@@ -19,8 +19,8 @@ abbrev μ-loop : tie.MeasureT-loop
 loop-holds : tie.Need-loop-holds Inv-loop μ-loop
 loop-holds c = (search needs, refl, search list-none)
 
-number-at-requires : tie.Need-number-at-requires Inv-loop μ-loop
-number-at-requires c κs = search needs
+number-of-requires : tie.Need-number-of-requires Inv-loop μ-loop
+number-of-requires c κs = search needs
 
 is-clearable-requires : tie.Need-is-clearable-requires Inv-loop μ-loop
 is-clearable-requires c κs = search needs
@@ -50,7 +50,7 @@ move-listed-spec =
     Inv-loop
     μ-loop
     loop-holds
-    number-at-requires
+    number-of-requires
     is-clearable-requires
     move-one-requires
     add-i

@@ -4,11 +4,11 @@ use Rattle.effect.proofs.Carrying.{item-value, item-raw, item-small}
 use Rattle.effect.proofs.transfers.item.Statement.{statement}
 use Rattle.effect.proofs.transfers.item.Tie as tie
 
-number-at-requires : tie.Need-number-at-requires
-number-at-requires c κs = search needs
+number-of-requires : tie.Need-number-of-requires
+number-of-requires c κs = search needs
 
-number-at-requires-2 : tie.Need-number-at-requires-2
-number-at-requires-2 c κs = search needs
+number-of-requires-2 : tie.Need-number-of-requires-2
+number-of-requires-2 c κs = search needs
 
 cast-value-bytes : tie.Need-cast-value-bytes
 cast-value-bytes c = search item-small
@@ -32,8 +32,8 @@ pub item-spec : {M : Type 1} → statement M
 item-spec =
     tie.close
     (tie.spec
-    number-at-requires
-    number-at-requires-2
+    number-of-requires
+    number-of-requires-2
     cast-value-bytes
     value-bytes-requires
     returns

@@ -21,8 +21,8 @@ abbrev μ-loop : tie.MeasureT-loop
 loop-holds : tie.Need-loop-holds Inv-loop μ-loop
 loop-holds c = (search needs, refl, search read-out-none)
 
-number-at-requires : tie.Need-number-at-requires Inv-loop μ-loop
-number-at-requires c κs = search needs
+number-of-requires : tie.Need-number-of-requires Inv-loop μ-loop
+number-of-requires c κs = search needs
 
 content-requires : tie.Need-content-requires Inv-loop μ-loop
 content-requires c κs = search needs
@@ -55,7 +55,7 @@ read-out-spec =
     Inv-loop
     μ-loop
     loop-holds
-    number-at-requires
+    number-of-requires
     content-requires
     mul-save
     save-requires

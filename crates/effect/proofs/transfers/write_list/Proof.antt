@@ -19,8 +19,8 @@ abbrev μ-loop : tie.MeasureT-loop
 loop-holds : tie.Need-loop-holds Inv-loop μ-loop
 loop-holds c = (search needs, refl, search write-none)
 
-number-at-requires : tie.Need-number-at-requires Inv-loop μ-loop
-number-at-requires c κs = search needs
+number-of-requires : tie.Need-number-of-requires Inv-loop μ-loop
+number-of-requires c κs = search needs
 
 item-requires : tie.Need-item-requires Inv-loop μ-loop
 item-requires c κs = (search needs, search item-fits)
@@ -50,7 +50,7 @@ write-list-spec =
     Inv-loop
     μ-loop
     loop-holds
-    number-at-requires
+    number-of-requires
     item-requires
     store-requires
     add-i
