@@ -1,16 +1,22 @@
 -- Loops that change an object a turn: the state after some of them.
-use Prim.Native.Nat.{ℕ, zero, suc, _+_, _≤_, _<_}
+use Prim.Native.Nat.{ℕ, zero, suc, _+_, _*_, _≤_, _<_}
 use mathlib.Core.Path.{_≡_, refl, sym, ap, _∙_}
-use mathlib.Core.List.{List, [], _∷_, _++_}
+use mathlib.Core.List.{List, [], _∷_, _++_, append-nil}
+use mathlib.Core.Bool.{Bool, true, false, _&&_, cond}
 use native.Mathlib.Numerals.{add-one}
 use native.Mathlib.Omega.{arith}
-use lib.ListN.{length, getD, drop, set, replicate, length-replicate}
-use lib.Seq.{drop-cons, set-at}
+use lib.ListN.{length, getD, drop, set, replicate, length-replicate, replicate-append-replicate}
+use lib.Seq.{set-getD, drop-length}
+use lib.Dec.{leb, eqb}
+use borrow.Author.Fill.{fill-more}
 use borrow.Author.Tests.{le-leb, lt-leb, ne-eqb}
 use Rattle.model.specs.Base.{number}
-use Rattle.model.specs.Config.{mostDrivers, mostDevices}
+use Rattle.model.specs.Config.{mostDrivers, mostDevices, kindOf, ownerOf, hardcodedOf}
 use Rattle.model.specs.State.{
   partitionCount,
+  recordBytes,
+  partitionsIn,
+  contentsIn,
   recordsFrom,
   State,
   cleared,
@@ -22,11 +28,11 @@ use Rattle.model.specs.State.{
   fresh,
 }
 use Rattle.model.specs.declared.Config.{Config}
-use Rattle.model.proofs.Lists.{all-put, length-put, partly, partly-more, partly-all}
+use Rattle.model.proofs.Lists.{all-put, length-put, partly, partly-get, partly-more, partly-all}
 use Rattle.model.proofs.StateLaws.{Sixteen, Shape, view-layout}
 use Rattle.model.proofs.StateBytes.{layout-view}
 use Rattle.state.specs.Change.{withDriver, withDevice, withObject, withContent, configOf}
-use Rattle.state.specs.Fresh.{freshened}
+use Rattle.state.specs.Fresh.{valued}
 use Rattle.state.proofs.Places.{view-shape}
 
 -- what an area shows after one change
@@ -118,115 +124,161 @@ module _ (f : ℕ → ℕ → ℕ) (g : ℕ → List ℕ → List ℕ) where
       d : k ≡ length (b .content)
       d = omega (arith, sh .contents)
 
-  -- one turn: object k + 1
-  up-on : (room k : ℕ) (b : State) (p : ℕ) (c : List ℕ) → Shape room b → k < room → p ≡ f (suc k) (getD (b .object) k 0)
-      → c ≡ g (suc k) (getD (b .content) k cleared)
-      → withContent (withObject (upTo f g k b) (k + 1) p) (k + 1) c ≡ upTo f g (k + 1) b
-  unfolding upTo withContent withObject
-  up-on room k b p c sh h e q = rw (add-one k, e, q) (λ i. record {
-    status = b .status;
-    driver = b .driver;
-    device = b .device;
-    object = partly-more f k (b .object) 0 (omega (arith, sh .objects)) i;
-    content = partly-more g k (b .content) cleared (omega (arith, sh .contents)) i;
-  })
-
--- the head of a fresh area
-zeros-more : (i : ℕ) (r : List ℕ) → replicate i 0 ++ (0 ∷ r) ≡ replicate (suc i) 0 ++ r
-zeros-more zero r = refl
-zeros-more (suc i) r = ap (λ (l : List ℕ). 0 ∷ l) (zeros-more i r)
-
-pub head-on : (i : ℕ) (s t : List ℕ) → recordsFrom ≤ length s → i < recordsFrom → t ≡ replicate i 0 ++ drop i s
+-- zeros
+pub zero-on : (i n : ℕ) (s t : List ℕ) → n ≡ length s → i < n → t ≡ replicate i 0 ++ drop i s
     → set t i 0 ≡ replicate (i + 1) 0 ++ drop (i + 1) s
-head-on i s t l h e =
-    rw (e, add-one i, drop-cons s i 0 (omega arith))
-    (set-at (replicate i 0) (getD s i 0) (drop (suc i) s) 0 i (length-replicate {A = ℕ} i 0)
-    ∙ zeros-more i (drop (suc i) s))
+zero-on i n s t l h e = rw e (fill-more i 0 s (omega arith))
 
-pub head-end : (i : ℕ) (s t : List ℕ) → i ≤ recordsFrom → recordsFrom ≤ i → t ≡ replicate i 0 ++ drop i s
-    → t ≡ replicate recordsFrom 0 ++ drop recordsFrom s
-head-end i s t h k e =
-    let q : i ≡ recordsFrom = omega arith in
-    rw q at e
+pub zero-end : (i n : ℕ) (s t : List ℕ) → n ≡ length s → i ≤ n → n ≤ i → t ≡ replicate i 0 ++ drop i s
+    → t ≡ replicate (length s) 0
+zero-end i n s t l h k e =
+    let q : i ≡ length s = omega arith in
+    e ∙ (ap (λ (m : ℕ). replicate m 0 ++ drop m s) q
+    ∙ (ap (λ (r : List ℕ). replicate (length s) 0 ++ r) (drop-length s) ∙ append-nil (replicate (length s) 0)))
 
--- fresh contents
-module _ (objects : ℕ) (kind owner hardcoded : List ℕ) (n : ℕ) where
-  pub fresh-absent : objects < n → cleared ≡ freshContent (configOf objects 0 kind [] owner hardcoded) n
-  unfolding configOf
-  fresh-absent h = rw (lt-leb n objects h)
+pub zero-length : (n : ℕ) (s t : List ℕ) → s ≡ replicate n 0 → length t ≡ length s → length t ≡ n
+zero-length n s t e l = l ∙ (ap (λ (r : List ℕ). length r) e ∙ length-replicate n 0)
 
-  pub fresh-other : (k : ℕ) → n ≤ objects → k ≡ getD kind n 0 → (k ≡ 4 → ⊥)
-      → cleared ≡ freshContent (configOf objects 0 kind [] owner hardcoded) n
-  unfolding configOf
-  fresh-other k h e x = rw (le-leb n objects h, ← e, ne-eqb k 4 x)
+-- records of zeros
+zeros-record : (k : ℕ)
+    → replicate {A = ℕ} (recordBytes * suc k) 0 ≡ replicate recordBytes 0 ++ replicate (recordBytes * k) 0
+zeros-record k =
+    let q : recordBytes * suc k ≡ recordBytes + recordBytes * k = omega arith in
+    ap (λ (n : ℕ). replicate {A = ℕ} n 0) q ∙ sym (replicate-append-replicate recordBytes (recordBytes * k) 0)
 
-  pub fresh-hardcoded : (k o v : ℕ) (r : List ℕ) → n ≤ objects → k ≡ getD kind n 0 → k ≡ 4 → o ≡ getD owner n 0
-      → v ≡ getD hardcoded o 0 → r ≡ valueBytes v → r ≡ freshContent (configOf objects 0 kind [] owner hardcoded) n
-  unfolding configOf
-  fresh-hardcoded k o v r h e x f q t = rw (le-leb n objects h, ← e, x, ← f, ← q) t
+zeros-partitions : (k : ℕ) → partitionsIn k (replicate (recordBytes * k) 0) ≡ replicate k 0
+zeros-partitions zero = refl
+zeros-partitions (suc k) =
+    ap (partitionsIn (suc k)) (zeros-record k) ∙ ap (λ (l : List ℕ). 0 ∷ l) (zeros-partitions k)
+
+zeros-contents : (k : ℕ) → contentsIn k (replicate (recordBytes * k) 0) ≡ replicate k cleared
+zeros-contents zero = refl
+zeros-contents (suc k) =
+    ap (contentsIn (suc k)) (zeros-record k) ∙ ap (λ (l : List (List ℕ)). cleared ∷ l) (zeros-contents k)
+
+-- one object's contents in a fresh state
+module _ (objects : ℕ) (kind owner hardcoded : List ℕ) (n room : ℕ) (s : List ℕ) where
+  abbrev Valued : List ℕ → Type 0
+  Valued t = t ≡ layout (valued (configOf objects 0 kind [] owner hardcoded) n (view room s))
+
+  pub value-absent : length s ≡ areaLength room → objects < n → Valued s
+  unfolding valued configOf
+  value-absent l h = rw (lt-leb n objects h) (sym (layout-view room s l))
+
+  pub value-other : (k : ℕ) → length s ≡ areaLength room → n ≤ objects → k ≡ getD kind n 0 → (k ≡ 4 → ⊥) → Valued s
+  unfolding valued configOf
+  value-other k l h e x = rw (le-leb n objects h, ← e, ne-eqb k 4 x) (sym (layout-view room s l))
+
+  pub value-hardcoded : (k o v : ℕ) (c t : List ℕ) → n ≤ objects → k ≡ getD kind n 0 → k ≡ 4 → o ≡ getD owner n 0
+      → v ≡ getD hardcoded o 0 → c ≡ valueBytes v → t ≡ layout (withContent (view room s) n c) → Valued t
+  unfolding valued configOf
+  value-hardcoded k o v c t h e x f q r g = rw (le-leb n objects h, ← e, x, ← f, ← q, ← r) g
 
 -- the loop of a fresh state
-unfoldable pub freshTo : Config → ℕ → State → State
-freshTo config k b = upTo (λ n q. 0) (λ n c. freshContent config n) k b
+unfoldable pub freshTo : Config → ℕ → ℕ → State
+freshTo config room k =
+    record {
+      status = replicate partitionCount 0;
+      driver = replicate mostDrivers 0;
+      device = replicate mostDevices 0;
+      object = replicate room 0;
+      content = partly (λ n c. freshContent config n) k (replicate room cleared);
+    }
 
-pub fresh-none : (config : Config) (room : ℕ) (s : List ℕ) → view room s ≡ freshTo config 0 (view room s)
-unfolding freshTo
-fresh-none config room s = up-none (λ n q. 0) (λ n c. freshContent config n) (view room s)
+cleared-at : (k i : ℕ) → getD (replicate k cleared) i cleared ≡ cleared
+cleared-at zero i = refl
+cleared-at (suc k) zero = refl
+cleared-at (suc k) (suc i) = cleared-at k i
 
-module _ (config : Config) (room : ℕ) (s₀ : List ℕ) where
-  pub fresh-on : (i : ℕ) (s t u c : List ℕ) → view room s ≡ freshTo config i (view room s₀) → i < room
-      → t ≡ layout (withObject (view room s) (i + 1) 0) → c ≡ freshContent config (i + 1) → Sixteen c
-      → u ≡ layout (withContent (view room t) (i + 1) c) → view room u ≡ freshTo config (i + 1) (view room s₀)
-  unfolding freshTo
-  fresh-on i s t u c inv h e q w g =
-      after-content room t u (i + 1) c w g
-      ∙ (ap (λ (b : State). withContent b (i + 1) c)
-      (after-object room s t (i + 1) 0 e ∙ ap (λ (b : State). withObject b (i + 1) 0) inv)
-      ∙ up-on (λ n q. 0) (λ n c. freshContent config n) room i (view room s₀) 0 c (view-shape room s₀) h refl
-      (q ∙ ap (freshContent config) (add-one i)))
+module _ (config : Config) (room : ℕ) where
+  pub fresh-none : (s : List ℕ) → s ≡ replicate (areaLength room) 0 → view room s ≡ freshTo config room 0
+  unfolding freshTo view
+  fresh-none s e =
+      ap (view room) (e ∙ sym (replicate-append-replicate recordsFrom (recordBytes * room) 0))
+      ∙ (λ i. record {
+        status = replicate partitionCount 0;
+        driver = replicate mostDrivers 0;
+        device = replicate mostDevices 0;
+        object = zeros-partitions room i;
+        content = zeros-contents room i;
+      })
 
-  pub fresh-end : (i : ℕ) (s : List ℕ) → length s ≡ length s₀ → length s₀ ≡ areaLength room
-      → view room s ≡ freshTo config i (view room s₀) → i ≤ room → room ≤ i
-      → s ≡ layout (freshened config (view room s₀))
-  unfolding freshTo freshened done
-  fresh-end i s l m inv h k =
-      sym (layout-view room s (l ∙ m))
-      ∙ ap layout (inv ∙ up-all (λ n q. 0) (λ n c. freshContent config n) room i (view room s₀)
-      (view-shape room s₀) h k)
+  abbrev isHardcoded : ℕ → Bool
+  isHardcoded n = leb n (config .counts .objects) && eqb (kindOf config n) 4
 
-number-zero : (k : ℕ) (l : List ℕ) → number k (λ n q. 0) l ≡ replicate (length l) 0
-number-zero k [] = refl
-number-zero k (x ∷ l) = ap (λ (t : List ℕ). 0 ∷ t) (number-zero (suc k) l)
+  abbrev value : ℕ → List ℕ
+  value n = valueBytes (hardcodedOf config (ownerOf config n))
 
-number-blind : {A : Type 0} (F : ℕ → A) (k : ℕ) (l m : List A) → length l ≡ length m
-    → number k (λ n c. F n) l ≡ number k (λ n c. F n) m
-number-blind F k [] [] e = refl
-number-blind F k [] (y ∷ m) e = absurd (omega arith)
-number-blind F k (x ∷ l) [] e = absurd (omega arith)
-number-blind {A} F k (x ∷ l) (y ∷ m) e = ap (λ (t : List A). F (suc k) ∷ t) (number-blind F (suc k) l m (omega arith))
+  fresh-state : (i : ℕ) (h : Bool) (v : List ℕ) → i < room → freshContent config (suc i) ≡ cond h v cleared
+      → cond h (withContent (freshTo config room i) (suc i) v) (freshTo config room i) ≡ freshTo config room (suc i)
+  unfolding freshTo withContent
+  fresh-state i h v l e = go h e
+    where
+      f : ℕ → List ℕ → List ℕ
+      f n c = freshContent config n
 
--- what the loop over the records is lent of a configuration
-abbrev lent : Config → Config
-lent config =
-    configOf (config .counts .objects) 0 (config .objects .kind) [] (config .objects .owner)
-    (config .devices .hardcoded)
+      cs : List (List ℕ)
+      cs = replicate room cleared
 
-fresh-same : (room : ℕ) (config : Config) (r : List ℕ)
-    → freshened (lent config) (view room (replicate recordsFrom 0 ++ r)) ≡ fresh room config
-unfolding freshened configOf fresh view
-fresh-same room config r = λ i. record {
-  status = replicate partitionCount 0;
-  driver = replicate mostDrivers 0;
-  device = replicate mostDevices 0;
-  object = (number-zero 0 (view room (replicate recordsFrom 0 ++ r) .object)
-      ∙ ap (λ (n : ℕ). replicate n 0) (view-shape room (replicate recordsFrom 0 ++ r) .objects)) i;
-  content = number-blind (freshContent config) 0 (view room (replicate recordsFrom 0 ++ r) .content)
-      (replicate room cleared)
-      (view-shape room (replicate recordsFrom 0 ++ r) .contents ∙ sym (length-replicate room cleared)) i;
-}
+      more : set (partly f i cs) i (freshContent config (suc i)) ≡ partly f (suc i) cs
+      more = partly-more f i cs cleared (omega (arith, length-replicate room cleared))
 
-pub fresh-whole : (room : ℕ) (config : Config) (s t u : List ℕ) → t ≡ replicate recordsFrom 0 ++ drop recordsFrom s
-    → u ≡ layout (freshened (lent config) (view room t)) → u ≡ layout (fresh room config)
-fresh-whole room config s t u e g =
-    g ∙ (ap (λ (x : List ℕ). layout (freshened (lent config) (view room x))) e
-    ∙ ap layout (fresh-same room config (drop recordsFrom s)))
+      same : partly f i cs ≡ set (partly f i cs) i cleared
+      same =
+          sym (set-getD (partly f i cs) i cleared)
+          ∙ ap (λ (c : List ℕ). set (partly f i cs) i c)
+          (partly-get f i cs cleared (omega (arith, length-replicate room cleared)) ∙ cleared-at room i)
+
+      go : (h : Bool) → freshContent config (suc i) ≡ cond h v cleared
+          → cond h (withContent (freshTo config room i) (suc i) v) (freshTo config room i) ≡ freshTo config room (suc i)
+      go true q = λ j. record {
+        status = replicate partitionCount 0;
+        driver = replicate mostDrivers 0;
+        device = replicate mostDevices 0;
+        object = replicate room 0;
+        content = (ap (λ (c : List ℕ). set (partly f i cs) i c) (sym q) ∙ more) j;
+      }
+      go false q = λ j. record {
+        status = replicate partitionCount 0;
+        driver = replicate mostDrivers 0;
+        device = replicate mostDevices 0;
+        object = replicate room 0;
+        content = (same ∙ (ap (λ (c : List ℕ). set (partly f i cs) i c) (sym q) ∙ more)) j;
+      }
+
+  after-value : (s t v : List ℕ) (n : ℕ) (h : Bool) → Sixteen v
+      → t ≡ layout (cond h (withContent (view room s) n v) (view room s))
+      → view room t ≡ cond h (withContent (view room s) n v) (view room s)
+  after-value s t v n true w e = after-content room s t n v w e
+  after-value s t v n false w e = ap (view room) e ∙ view-layout room (view room s) (view-shape room s)
+
+  pub fresh-on : (i : ℕ) (s t : List ℕ) → view room s ≡ freshTo config room i → i < room
+      → t ≡ layout (valued config (i + 1) (view room s)) → view room t ≡ freshTo config room (i + 1)
+  unfolding valued
+  fresh-on i s t inv l e =
+      after-value s t (value (i + 1)) (i + 1) (isHardcoded (i + 1)) refl e
+      ∙ rw (inv, add-one i) (fresh-state i (isHardcoded (suc i)) (value (suc i)) l refl)
+
+  pub fresh-end : (i : ℕ) (s₀ s : List ℕ) → s₀ ≡ replicate (areaLength room) 0 → length s ≡ length s₀
+      → view room s ≡ freshTo config room i → i ≤ room → room ≤ i → s ≡ layout (fresh room config)
+  unfolding freshTo fresh
+  fresh-end i s₀ s z l inv h k =
+      let q : i ≡ length (replicate room cleared) = omega (arith, length-replicate room cleared) in
+      sym (layout-view room s (zero-length (areaLength room) s₀ s z l)) ∙ ap layout (inv ∙ (λ j. record {
+        status = replicate partitionCount 0;
+        driver = replicate mostDrivers 0;
+        device = replicate mostDevices 0;
+        object = replicate room 0;
+        content = (ap (λ (m : ℕ). partly (λ n c. freshContent config n) m (replicate room cleared)) q
+            ∙ partly-all (λ n c. freshContent config n) (replicate room cleared)) j;
+      }))
+
+pub zero-whole : (room : ℕ) (s t : List ℕ) → length s ≡ areaLength room → t ≡ replicate (length s) 0
+    → t ≡ replicate (areaLength room) 0
+zero-whole room s t l e = rw l at e
+
+pub fresh-whole : (room : ℕ) (config : Config) (u : List ℕ)
+    → u ≡ layout (fresh room (configOf (config .counts .objects) 0 (config .objects .kind) [] (config .objects .owner)
+    (config .devices .hardcoded))) → u ≡ layout (fresh room config)
+unfolding fresh configOf
+fresh-whole room config u e = e

@@ -1,15 +1,14 @@
--- What making a fresh state does to the records of objects.
-use Rattle.model.specs.Base.{number}
-use Rattle.model.specs.State.{State, freshContent}
+-- What making a fresh state does to a hardcoded descriptor.
+use Prim.Native.Nat.{ℕ}
+use mathlib.Core.Bool.{_&&_, cond}
+use lib.Dec.{leb, eqb}
+use Rattle.model.specs.Config.{kindOf, ownerOf, hardcodedOf}
+use Rattle.model.specs.State.{State, valueBytes}
 use Rattle.model.specs.declared.Config.{Config}
+use Rattle.state.specs.Change.{withContent}
 
--- every object in no partition, with its fresh contents
-unfoldable pub freshened : Config → State → State
-freshened config b =
-    record {
-      status = b .status;
-      driver = b .driver;
-      device = b .device;
-      object = number 0 (λ n q. 0) (b .object);
-      content = number 0 (λ n c. freshContent config n) (b .content);
-    }
+-- object n with its device's value number, if it is a hardcoded descriptor
+unfoldable pub valued : Config → ℕ → State → State
+valued config n b =
+    cond (leb n (config .counts .objects) && eqb (kindOf config n) 4)
+    (withContent b n (valueBytes (hardcodedOf config (ownerOf config n)))) b

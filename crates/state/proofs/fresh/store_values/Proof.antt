@@ -1,4 +1,4 @@
--- `state::fresh::fresh_objects` meets its contract: after i turns the first i records are fresh. Assumes nothing.
+-- `state::fresh::store_values` meets its contract: after i turns the first i hardcoded values stand. Assumes nothing.
 use Prim.Native.Nat.{_-_, _≤_}
 use mathlib.Core.Path.{_≡_, refl}
 use mathlib.Core.List.{[]}
@@ -6,13 +6,13 @@ use lib.ListN.{length}
 use borrow.Author.Needs.{needs}
 use Rattle.model.specs.State.{view}
 use Rattle.state.specs.Change.{configOf}
-use Rattle.state.proofs.Turns.{freshTo, fresh-none, fresh-on, fresh-end}
-use Rattle.state.proofs.fresh.fresh_objects.Statement.{statement}
-use Rattle.state.proofs.fresh.fresh_objects.Tie as tie
+use Rattle.state.proofs.Turns.{zero-length, freshTo, fresh-none, fresh-on, fresh-end}
+use Rattle.state.proofs.fresh.store_values.Statement.{statement}
+use Rattle.state.proofs.fresh.store_values.Tie as tie
 
 abbrev Inv-loop : tie.InvT-loop
 Inv-loop area₀ room objects kind owner hardcoded i₀ area i = (i ≤ room) × (length area ≡ length area₀)
-    × (view room area ≡ freshTo (configOf objects 0 kind [] owner hardcoded) i (view room area₀))
+    × (view room area ≡ freshTo (configOf objects 0 kind [] owner hardcoded) room i)
 
 abbrev μ-loop : tie.MeasureT-loop
 μ-loop area₀ room objects kind owner hardcoded i₀ area i = room - i
@@ -23,14 +23,8 @@ loop-holds c = (search needs, refl, search fresh-none)
 add-i : tie.Need-add-i Inv-loop μ-loop
 add-i c = search needs
 
-set-object-requires : tie.Need-set-object-requires Inv-loop μ-loop
-set-object-requires c κs = search needs
-
-fresh-content-requires : tie.Need-fresh-content-requires Inv-loop μ-loop
-fresh-content-requires c κs = search needs
-
-store-requires : tie.Need-store-requires Inv-loop μ-loop
-store-requires c κs = search needs
+store-hardcoded-requires : tie.Need-store-hardcoded-requires Inv-loop μ-loop
+store-hardcoded-requires c κs = search zero-length
 
 loop-less : tie.Need-loop-less Inv-loop μ-loop
 loop-less c = search needs
@@ -44,17 +38,15 @@ same-length c = search needs
 returns : tie.Need-returns Inv-loop μ-loop
 returns c = search fresh-end
 
-pub fresh-objects-spec : {M : Type 1} → statement M
-fresh-objects-spec =
+pub store-values-spec : {M : Type 1} → statement M
+store-values-spec =
     tie.close
     (tie.spec
     Inv-loop
     μ-loop
     loop-holds
     add-i
-    set-object-requires
-    fresh-content-requires
-    store-requires
+    store-hardcoded-requires
     loop-less
     loop-again
     same-length
