@@ -61,7 +61,7 @@ pub fn one_byte_most(most: u8) -> u8
 }
 
 // A place below this has two more bytes after its own.
-pub fn reach(s: &[u8]) -> usize
+pub fn triples_end(s: &[u8]) -> usize
     ensures { λ r. ⌜ r ≡ length (now (s .entry)) - 2 ⌝ }
 {
     if s.len() < 2 { 0 } else { s.len() - 2 }

@@ -11,8 +11,8 @@ ghost use Rattle.config.specs.Quick.{isOwner, isObject, countsFit};
 use crate::fields::field_question;
 use crate::fields::one_byte_most;
 use crate::fields::quick_field;
-use crate::fields::reach;
 use crate::fields::read_field;
+use crate::fields::triples_end;
 use model::Counts;
 use model::DEVICE_SLOTS;
 use model::DRIVER_CLASS;
@@ -205,7 +205,7 @@ fn read_object(
         ≡ object (now (s .entry)) counts o at
         (objectsOf (now (kind .entry)) (now (class .entry)) (now (owner .entry))) ⌝ }
 {
-    if at < reach(s) {
+    if at < triples_end(s) {
         let k = s[at];
         let c = s[at + 1];
         let w = s[at + 2];

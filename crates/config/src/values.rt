@@ -9,8 +9,8 @@ ghost use lib.Dec.{leb};
 ghost use Rattle.config.specs.Quick.{namesObject};
 use crate::fields::one_byte_most;
 use crate::fields::quick_field;
-use crate::fields::reach;
 use crate::fields::read_field;
+use crate::fields::triples_end;
 use crate::groups::refused;
 use model::Counts;
 use model::ENTRY_BYTES;
@@ -111,7 +111,7 @@ fn read_entry(
         ⌜ ((count : List ℕ) → progress r (valuesOf count (now (entries .exit)))
         ≡ entry (now (s .entry)) counts (now (kinds .entry)) v j at (valuesOf count (now (entries .entry)))) ⌝ }
 {
-    if at < reach(s) {
+    if at < triples_end(s) {
         let o = s[at];
         let mode = s[at + 1];
         let w = s[at + 2];

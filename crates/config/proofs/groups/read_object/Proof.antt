@@ -8,8 +8,8 @@ use Rattle.config.proofs.Quick
 use Rattle.config.proofs.groups.read_object.Statement.{statement}
 use Rattle.config.proofs.groups.read_object.Tie as tie
 
-reach-requires : tie.Need-reach-requires
-reach-requires c κs = search needs
+triples-end-requires : tie.Need-triples-end-requires
+triples-end-requires c κs = search needs
 
 shared-slice-read-k : tie.Need-shared-slice-read-k
 shared-slice-read-k c = search needs
@@ -47,7 +47,7 @@ returns c =
     Quick.object-quick _ _ _ _ _ _ _ _
     (omega (
       arith,
-      c .before .before .before .before .before .before .reach .ensures,
+      c .before .before .before .before .before .before .triples-end .ensures,
       c .before .before .before .before .before .if1 .taken,
     )) refl refl refl
     (sym (c .before .is-object .ensures) ∙ c .if2 .taken) (search needs)
@@ -62,7 +62,7 @@ pub read-object-spec : {M : Type 1} → statement M
 read-object-spec =
     tie.close
     (tie.spec
-    reach-requires
+    triples-end-requires
     shared-slice-read-k
     add-c
     shared-slice-read-c

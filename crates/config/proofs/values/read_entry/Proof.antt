@@ -8,8 +8,8 @@ use Rattle.config.proofs.Quick
 use Rattle.config.proofs.values.read_entry.Statement.{statement}
 use Rattle.config.proofs.values.read_entry.Tie as tie
 
-reach-requires : tie.Need-reach-requires
-reach-requires c κs = search needs
+triples-end-requires : tie.Need-triples-end-requires
+triples-end-requires c κs = search needs
 
 shared-slice-read-o : tie.Need-shared-slice-read-o
 shared-slice-read-o c = search needs
@@ -58,7 +58,7 @@ returns c =
     (Quick.entry-quick _ _ _ _ _ _ _ _ _ _
     (omega (
       arith,
-      c .before .before .before .before .before .before .before .before .reach .ensures,
+      c .before .before .before .before .before .before .before .before .triples-end .ensures,
       c .before .before .before .before .before .before .before .if1 .taken,
     )) refl refl refl
     (sym (c .before .before .before .names-object .ensures) ∙ c .before .before .if2 .taken)
@@ -74,7 +74,7 @@ pub read-entry-spec : {M : Type 1} → statement M
 read-entry-spec =
     tie.close
     (tie.spec
-    reach-requires
+    triples-end-requires
     shared-slice-read-o
     add-mode
     shared-slice-read-mode
