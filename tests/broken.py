@@ -5,6 +5,9 @@ fault are as they should be, and accepted, so that a reader who looks at them al
 """
 import signal
 
+# The kind of a part of an ELF file that is loaded.
+LOAD = 1
+
 SCRIPTS = {
     "a crash": "kill -SEGV $$",
     "a crash after the whole text": '"$OFFICE"; kill -SEGV $$',
@@ -52,11 +55,20 @@ def programs(folder, office):
         path.chmod(0o755)
         yield name, path, expected(script)
     whole = office.read_bytes()
-    for length in (0, 1, len(whole) // 2, len(whole) - len(whole) // 8):
+    needed = loaded(whole)
+    for length in (0, 1, needed // 2, needed - needed // 8):
         path = folder / f"cut-at-{length}"
         path.write_bytes(whole[:length])
         path.chmod(0o755)
         yield f"the program cut at byte {length}", path, str(path)
+
+
+def loaded(whole):
+    """How many bytes of a program are loaded to run it. What stands behind, as names of sections, may be cut."""
+    start, size, count = (int.from_bytes(whole[at:at + n], "little") for at, n in ((32, 8), (54, 2), (56, 2)))
+    heads = (whole[start + size * i:start + size * (i + 1)] for i in range(count))
+    return max(int.from_bytes(head[8:16], "little") + int.from_bytes(head[32:40], "little") for head in heads
+               if int.from_bytes(head[:4], "little") == LOAD)
 
 
 def expected(script):
