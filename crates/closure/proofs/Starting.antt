@@ -19,7 +19,7 @@ use Rattle.model.specs.declared.Counts.{Counts}
 use Rattle.model.specs.declared.Config.{Config}
 use Rattle.closure.specs.Digits.{bit}
 use Rattle.closure.specs.Rules.{holdsValue, starts, owned}
-use Rattle.closure.specs.Scene.{Scene, configOf, In, OwnersOk}
+use Rattle.closure.specs.Scene.{Scene, searchConfig, In, OwnersOk}
 use Rattle.closure.specs.Words.{
   Has,
   Wider,
@@ -65,7 +65,7 @@ owners-of m ok c o h =
 module _ (n : Counts) (kind class owner : List ℕ) (b : State) (o : ℕ) where
   -- a configuration with these columns
   abbrev config : Config
-  config = configOf (record { hardcoded = [] }) n kind class owner [] []
+  config = searchConfig (record { hardcoded = [] }) n kind class owner [] []
 
   abbrev Word : ℕ → Type 0
   Word x = OwnWord kind class owner b o x

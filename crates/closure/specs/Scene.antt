@@ -36,8 +36,8 @@ valueSlots = suc mostValues
 
 -- the configuration with these columns: kind, class, owner; entry counts, entries. No search looks at the hardcoded
 -- values of the devices d
-abbrev pub configOf : Devices → Counts → List ℕ → List ℕ → List ℕ → List ℕ → List ℕ → Config
-configOf d n kind class owner count entries =
+abbrev pub searchConfig : Devices → Counts → List ℕ → List ℕ → List ℕ → List ℕ → List ℕ → Config
+searchConfig d n kind class owner count entries =
     record {
       counts = n;
       objects = record { kind = kind; class = class; owner = owner };
@@ -47,7 +47,7 @@ configOf d n kind class owner count entries =
 
 abbrev pub sceneOf : Devices → Counts → List ℕ → List ℕ → List ℕ → List ℕ → List ℕ → Bool → State → Scene
 sceneOf d n kind class owner count entries storing b =
-    record { config = configOf d n kind class owner count entries; storing = storing; state = b }
+    record { config = searchConfig d n kind class owner count entries; storing = storing; state = b }
 
 -- the scene m with the columns by which entries are followed
 abbrev pub following : Scene → Counts → List ℕ → List ℕ → List ℕ → Bool → Scene

@@ -13,7 +13,7 @@ ghost use Rattle.model.specs.State.{view};
 ghost use Rattle.model.specs.Closure.{confined, unnamed};
 ghost use Rattle.model.specs.Questions.{ask};
 ghost use Rattle.model.specs.declared.Devices.{Devices};
-ghost use Rattle.closure.specs.Scene.{configOf, sceneOf, ValuesOk, OwnersOk, AreaOk};
+ghost use Rattle.closure.specs.Scene.{searchConfig, sceneOf, ValuesOk, OwnersOk, AreaOk};
 ghost use Rattle.closure.specs.Search.{Fines, Answers, findingMeans, IsCrossing, IsNaming};
 use model::Counts;
 use model::ENTRY_SLOTS;
@@ -93,11 +93,11 @@ pub fn crossing<'a>(
     requires { ⌜ OwnersOk counts (now class) (now owner) ⌝ }
     requires { ⌜ AreaOk counts (now kind) (now area) room ⌝ }
     ensures { λ r.
-        ⌜ ((d : Devices) → (findingMeans 19 r) .0 ≡ ask 19 (confined (configOf d counts (now (kind .entry))
+        ⌜ ((d : Devices) → (findingMeans 19 r) .0 ≡ ask 19 (confined (searchConfig d counts (now (kind .entry))
         (now (class .entry)) (now (owner .entry)) (now (count .entry)) (now (entries .entry)))
         (view room (now (area .entry)))) 0) ⌝ }
     ensures { λ r.
-        ⌜ ((d : Devices) → IsCrossing (configOf d counts (now (kind .entry)) (now (class .entry))
+        ⌜ ((d : Devices) → IsCrossing (searchConfig d counts (now (kind .entry)) (now (class .entry))
         (now (owner .entry)) (now (count .entry)) (now (entries .entry))) (view room (now (area .entry)))
         (findingMeans 19 r)) ⌝ }
 {
@@ -133,11 +133,11 @@ pub fn naming<'a>(
     requires { ⌜ OwnersOk counts (now class) (now owner) ⌝ }
     requires { ⌜ AreaOk counts (now kind) (now area) room ⌝ }
     ensures { λ r.
-        ⌜ ((d : Devices) → (findingMeans 20 r) .0 ≡ ask 20 (unnamed (configOf d counts (now (kind .entry))
+        ⌜ ((d : Devices) → (findingMeans 20 r) .0 ≡ ask 20 (unnamed (searchConfig d counts (now (kind .entry))
         (now (class .entry)) (now (owner .entry)) (now (count .entry)) (now (entries .entry)))
         (view room (now (area .entry))) (λ o. eqb (getD (now (concerned .entry)) o 0) 1) but) 0) ⌝ }
     ensures { λ r.
-        ⌜ ((d : Devices) → IsNaming (configOf d counts (now (kind .entry)) (now (class .entry))
+        ⌜ ((d : Devices) → IsNaming (searchConfig d counts (now (kind .entry)) (now (class .entry))
         (now (owner .entry)) (now (count .entry)) (now (entries .entry))) (view room (now (area .entry)))
         (λ o. eqb (getD (now (concerned .entry)) o 0) 1) but (findingMeans 20 r)) ⌝ }
 {

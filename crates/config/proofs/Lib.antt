@@ -1,3 +1,3 @@
-pub mod Laws
+pub mod Readers
 pub mod Quick
 pub mod Questions

@@ -39,7 +39,7 @@ use Rattle.model.specs.ConfigFile.{howMany, paired, ownEntry, restrained}
 use Rattle.model.specs.declared.Counts.{Counts}
 use Rattle.model.specs.declared.Config.{Config}
 use Rattle.config.specs.Sound.{
-  upTo,
+  everyTo,
   tally,
   marks,
   noted,
@@ -60,13 +60,13 @@ and-false false = refl
 
 -- a loop that tests the numbers 1 to n, at number i
 module _ (p : ℕ → Bool) where
-  pub up-start : upTo 0 p ≡ true
-  unfolding upTo
-  up-start = refl
+  pub every-to-start : everyTo 0 p ≡ true
+  unfolding everyTo
+  every-to-start = refl
 
-  pub up-go : (i : ℕ) → upTo i p ≡ true → p (i + 1) ≡ true → upTo (i + 1) p ≡ true
-  unfolding upTo
-  up-go i h e = rw add-one (rw (h, ← add-one i, e))
+  pub every-to-go : (i : ℕ) → everyTo i p ≡ true → p (i + 1) ≡ true → everyTo (i + 1) p ≡ true
+  unfolding everyTo
+  every-to-go i h e = rw add-one (rw (h, ← add-one i, e))
 
   every-false : (n i : ℕ) → i < n → p (suc i) ≡ false → every n p ≡ false
   every-false zero i h e = absurd (omega arith)
@@ -76,12 +76,12 @@ module _ (p : ℕ → Bool) where
       last (yes q) k = rw (← q, e) (and-false (every i p))
       last (no q) k = rw (k (omega arith))
 
-  pub up-stop : (n i : ℕ) → i < n → p (i + 1) ≡ false → false ≡ upTo n p
-  unfolding upTo
-  up-stop n i h e = sym (every-false n i h (rw (← add-one i) e))
+  pub every-to-stop : (n i : ℕ) → i < n → p (i + 1) ≡ false → false ≡ everyTo n p
+  unfolding everyTo
+  every-to-stop n i h e = sym (every-false n i h (rw (← add-one i) e))
 
-  pub up-end : (n i : ℕ) → upTo i p ≡ true → i ≤ n → n ≤ i → true ≡ upTo n p
-  up-end n i h l m =
+  pub every-to-end : (n i : ℕ) → everyTo i p ≡ true → i ≤ n → n ≤ i → true ≡ everyTo n p
+  every-to-end n i h l m =
       let q : i ≡ n = omega arith in
       sym (rw q at h)
 
@@ -236,7 +236,7 @@ module _ (config : Config) where
   pub paired-same :
       pairedBy (config .counts) (config .objects .kind) (config .objects .class) (config .objects .owner)
       ≡ paired config
-  unfolding pairedBy paired upTo deviceOwned
+  unfolding pairedBy paired everyTo deviceOwned
   paired-same = rw (every-same (config .counts .devices) _ _ (λ c low high. one-same c))
 
 -- both parts of it, as they are asked
@@ -249,16 +249,16 @@ module _ (counts : Counts) (kind class owner : List ℕ) where
       → false ≡ pairedBy counts kind class owner
   unfolding pairedBy
   paired-no i h e =
-      rw (← up-stop (deviceOwned kind class) (counts .objects) i h e)
-      (sym (and-false (upTo (counts .devices) (hasOne kind class owner (counts .objects)))))
+      rw (← every-to-stop (deviceOwned kind class) (counts .objects) i h e)
+      (sym (and-false (everyTo (counts .devices) (hasOne kind class owner (counts .objects)))))
 
   pub paired-rest : (i : ℕ) (owned : List ℕ) (r : Bool) → i ≤ counts .objects → counts .objects ≤ i
-      → upTo i (deviceOwned kind class) ≡ true → Counted kind class owner i owned → counts .devices < length owned
-      → r ≡ upTo (counts .devices) (oneIn owned) → r ≡ pairedBy counts kind class owner
-  unfolding pairedBy upTo oneIn hasOne
+      → everyTo i (deviceOwned kind class) ≡ true → Counted kind class owner i owned → counts .devices < length owned
+      → r ≡ everyTo (counts .devices) (oneIn owned) → r ≡ pairedBy counts kind class owner
+  unfolding pairedBy everyTo oneIn hasOne
   paired-rest i owned r l m d h v e =
       let q : i ≡ counts .objects = omega arith in
-      rw (e, ← up-end (deviceOwned kind class) (counts .objects) i d l m, and-true, ← q)
+      rw (e, ← every-to-end (deviceOwned kind class) (counts .objects) i d l m, and-true, ← q)
       (every-same (counts .devices) _ _ (λ c low high. ap (λ (n : ℕ). eqb n 1) (h c (omega arith))))
 
 -- an object that is none, one past the last, and one of the configuration's
@@ -303,6 +303,6 @@ module _ (config : Config) where
   passes-same c zero = refl
   passes-same c (suc v) = refl
 
-  pub restrained-same : upTo (config .counts .devices) (deviceRestrained config) ≡ restrained config
-  unfolding restrained upTo deviceRestrained
+  pub restrained-same : everyTo (config .counts .devices) (deviceRestrained config) ≡ restrained config
+  unfolding restrained everyTo deviceRestrained
   restrained-same = every-same (config .counts .devices) _ _ (λ c low high. passes-same c (hardcodedOf config c))

@@ -37,10 +37,10 @@ use Rattle.model.specs.declared.Head.the-variants.{Counted}
 use Rattle.model.specs.declared.Counts.{Counts}
 use Rattle.model.specs.declared.Objects.{Objects}
 use Rattle.model.specs.declared.Values.{Values}
-use Rattle.varint.proofs.Laws.{number-one}
+use Rattle.varint.proofs.Numbers.{number-one}
 use Rattle.config.specs.Columns.{Within}
 use Rattle.config.specs.Quick.{oneByte, oneByteMost, isOwner, isObject, namesObject, countsFit}
-use Rattle.config.proofs.Laws.{field-value}
+use Rattle.config.proofs.Readers.{field-value}
 
 and-left : (a b : Bool) → a && b ≡ true → a ≡ true
 and-left true b e = refl

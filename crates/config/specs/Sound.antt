@@ -15,8 +15,8 @@ abbrev pub farPlace : ℕ
 farPlace = 65536
 
 -- the model's `every` and `howMany` under names that stay shut, so that laws match by their arguments
-unfoldable pub upTo : ℕ → (ℕ → Bool) → Bool
-upTo n p = every n p
+unfoldable pub everyTo : ℕ → (ℕ → Bool) → Bool
+everyTo n p = every n p
 
 unfoldable pub tally : ℕ → (ℕ → Bool) → ℕ
 tally n p = howMany n p
@@ -44,8 +44,8 @@ deviceOwned kind class n = not (eqb (getD kind n 0) 4) || eqb (getD class n 0) 2
 -- question 5, with these counts
 unfoldable pub pairedBy : Counts → List ℕ → List ℕ → List ℕ → Bool
 pairedBy counts kind class owner =
-    upTo (counts .devices) (hasOne kind class owner (counts .objects))
-    && upTo (counts .objects) (deviceOwned kind class)
+    everyTo (counts .devices) (hasOne kind class owner (counts .objects))
+    && everyTo (counts .objects) (deviceOwned kind class)
 
 -- the hardcoded value of device c may name object o by this mode, with n objects
 unfoldable pub mayName : List ℕ → List ℕ → List ℕ → ℕ → ℕ → ℕ → ℕ → Bool

@@ -7,7 +7,7 @@ ghost use lib.ListN.{length, getD, replicate};
 ghost use Rattle.model.specs.Config.{mostDevices, mostObjects, entryBytes, entryAt};
 ghost use Rattle.model.specs.ConfigFile.{restrained};
 ghost use Rattle.config.specs.Columns.{configOf, Within};
-ghost use Rattle.config.specs.Sound.{farPlace, upTo, noted, oneIn};
+ghost use Rattle.config.specs.Sound.{farPlace, everyTo, noted, oneIn};
 ghost use Rattle.config.specs.Sound.{pairedBy, mayName, entryPasses, allFrom, valuePasses};
 use model::Counts;
 use model::DEVICE_CLASS;
@@ -53,7 +53,7 @@ fn note(owned: &mut [u8; DEVICE_SLOTS], kind: u8, class: u8, owner: u8) -> bool
 // Each of the devices 1 to n has exactly one.
 fn each_has_one(owned: &[u8; DEVICE_SLOTS], n: u8) -> bool
     requires { ⌜ n ≤ mostDevices ⌝ }
-    ensures { λ r. ⌜ r ≡ upTo n (oneIn (now (owned .entry))) ⌝ }
+    ensures { λ r. ⌜ r ≡ everyTo n (oneIn (now (owned .entry))) ⌝ }
 {
     let end = n as usize;
     let mut i: usize = 0;

@@ -22,10 +22,19 @@ use Rattle.model.specs.declared.Operation.{Operation}
 use Rattle.model.proofs.Lists.{partly, partly-get, partly-more}
 use Rattle.model.proofs.StateLaws.{Shape, view-layout}
 use Rattle.model.proofs.StateBytes.{layout-view}
-use Rattle.state.specs.Change.{withStatus, withDriver, withDevice, withObject, withContent, configOf}
+use Rattle.state.specs.Change.{withStatus, withDriver, withDevice, withObject, withContent, objectsLent}
 use Rattle.effect.specs.Moves.{movedAt, clearable, ownedBy, listed, moved}
 use Rattle.state.proofs.Places.{view-shape}
-use Rattle.state.proofs.Turns.{after-driver, after-device, after-object, after-content, upTo, done, up-none, up-all}
+use Rattle.state.proofs.Turns.{
+  after-driver,
+  after-device,
+  after-object,
+  after-content,
+  changedTo,
+  done,
+  changed-to-none,
+  changed-to-all,
+}
 
 -- tests
 module _ (kind : List ℕ) (n : ℕ) (clears : Bool) where
@@ -39,21 +48,21 @@ module _ (kind : List ℕ) (n : ℕ) (clears : Bool) where
 
 module _ (objects : ℕ) (class owner : List ℕ) (a k n : ℕ) where
   pub owned-none : n ≡ 0 → false ≡ ownedBy objects class owner a k n
-  unfolding ownedBy configOf
+  unfolding ownedBy objectsLent
   owned-none e = rw e
 
   pub owned-absent : objects < n → false ≡ ownedBy objects class owner a k n
-  unfolding ownedBy configOf
+  unfolding ownedBy objectsLent
   owned-absent h = rw (lt-leb n objects h, le-leb 1 n (omega arith))
 
   pub owned-class : (c : ℕ) → (n ≡ 0 → ⊥) → n ≤ objects → c ≡ getD class n 0 → (c ≡ a → ⊥)
       → false ≡ ownedBy objects class owner a k n
-  unfolding ownedBy configOf
+  unfolding ownedBy objectsLent
   owned-class c z h e x = rw (le-leb 1 n (omega arith), le-leb n objects h, ← e, ne-eqb c a x)
 
   pub owned-owner : (c o : ℕ) → (n ≡ 0 → ⊥) → n ≤ objects → c ≡ getD class n 0 → c ≡ a → o ≡ getD owner n 0
       → eqb o k ≡ ownedBy objects class owner a k n
-  unfolding ownedBy configOf
+  unfolding ownedBy objectsLent
   owned-owner c o z h e x f = rw (le-leb 1 n (omega arith), le-leb n objects h, ← e, eq-eqb c a x, f)
 
 -- one turn
@@ -115,18 +124,19 @@ turn-state true true n p b = refl
 -- the objects that are hit among the first i
 unfoldable pub movedTo : (ℕ → Bool) → Bool → List ℕ → ℕ → ℕ → State → State
 movedTo hit clears kind p i b =
-    upTo (λ n q. cond (hit n) p q) (λ n c. cond (hit n && clearable clears kind n) cleared c) i b
+    changedTo (λ n q. cond (hit n) p q) (λ n c. cond (hit n && clearable clears kind n) cleared c) i b
 
 module _ (hit : ℕ → Bool) (clears : Bool) (kind : List ℕ) (p room : ℕ) (s₀ : List ℕ) where
   pub move-none : view room s₀ ≡ movedTo hit clears kind p 0 (view room s₀)
   unfolding movedTo
   move-none =
-      up-none (λ n q. cond (hit n) p q) (λ n c. cond (hit n && clearable clears kind n) cleared c) (view room s₀)
+      changed-to-none (λ n q. cond (hit n) p q) (λ n c. cond (hit n && clearable clears kind n) cleared c)
+      (view room s₀)
 
   move-state : (i : ℕ) (b : State) → Shape room b → i < room
       → movedAt (hit (suc i)) (clearable clears kind (suc i)) (suc i) p (movedTo hit clears kind p i b)
       ≡ movedTo hit clears kind p (suc i) b
-  unfolding movedTo upTo
+  unfolding movedTo changedTo
   move-state i b sh h =
       turn-state (hit (suc i)) (clearable clears kind (suc i)) (suc i) p (movedTo hit clears kind p i b)
       ∙ (λ j. record {
@@ -153,7 +163,7 @@ module _ (hit : ℕ → Bool) (clears : Bool) (kind : List ℕ) (p room : ℕ) (
   unfolding movedTo moved done
   move-end i s l m inv h k =
       sym (layout-view room s (l ∙ m))
-      ∙ ap layout (inv ∙ up-all (λ n q. cond (hit n) p q)
+      ∙ ap layout (inv ∙ changed-to-all (λ n q. cond (hit n) p q)
       (λ n c. cond (hit n && clearable clears kind n) cleared c) room i (view room s₀) (view-shape room s₀) h k)
 
 -- a column by its numbers, with one more of them changed
@@ -306,7 +316,7 @@ module _ (room : ℕ) (op : Operation) (s t : List ℕ) where
       pub activated-driver : t ≡ layout (withDriver (view room s) (op .subject) (op .partition))
           → u ≡ layout (moved (owned 1) true (config .objects .kind) (op .partition) (view room t))
           → u ≡ layout (apply config op Activate Driver (view room s))
-      unfolding apply moved ownedBy clearable configOf withDriver
+      unfolding apply moved ownedBy clearable objectsLent withDriver
       activated-driver e f =
           f ∙ ap (λ (b : State). layout (moved (owned 1) true (config .objects .kind) (op .partition) b))
           (after-driver room s t (op .subject) (op .partition) e)
@@ -314,7 +324,7 @@ module _ (room : ℕ) (op : Operation) (s t : List ℕ) where
       pub activated-device : t ≡ layout (withDevice (view room s) (op .subject) (op .partition))
           → u ≡ layout (moved (owned 2) true (config .objects .kind) (op .partition) (view room t))
           → u ≡ layout (apply config op Activate Device (view room s))
-      unfolding apply moved ownedBy clearable configOf withDevice
+      unfolding apply moved ownedBy clearable objectsLent withDevice
       activated-device e f =
           f ∙ ap (λ (b : State). layout (moved (owned 2) true (config .objects .kind) (op .partition) b))
           (after-device room s t (op .subject) (op .partition) e)
@@ -322,7 +332,7 @@ module _ (room : ℕ) (op : Operation) (s t : List ℕ) where
       pub deactivated-driver : t ≡ layout (withDriver (view room s) (op .subject) 0)
           → u ≡ layout (moved (owned 1) false (config .objects .kind) 0 (view room t))
           → u ≡ layout (apply config op Deactivate Driver (view room s))
-      unfolding apply moved ownedBy clearable configOf withDriver
+      unfolding apply moved ownedBy clearable objectsLent withDriver
       deactivated-driver e f =
           f ∙ (ap (λ (b : State). layout (moved (owned 1) false (config .objects .kind) 0 b))
           (after-driver room s t (op .subject) 0 e)
@@ -337,7 +347,7 @@ module _ (room : ℕ) (op : Operation) (s t : List ℕ) where
       pub deactivated-device : t ≡ layout (withDevice (view room s) (op .subject) 0)
           → u ≡ layout (moved (owned 2) false (config .objects .kind) 0 (view room t))
           → u ≡ layout (apply config op Deactivate Device (view room s))
-      unfolding apply moved ownedBy clearable configOf withDevice
+      unfolding apply moved ownedBy clearable objectsLent withDevice
       deactivated-device e f =
           f ∙ (ap (λ (b : State). layout (moved (owned 2) false (config .objects .kind) 0 b))
           (after-device room s t (op .subject) 0 e)

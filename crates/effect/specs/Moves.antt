@@ -7,7 +7,7 @@ use lib.Dec.{eqb}
 use Rattle.model.specs.Base.{number, below}
 use Rattle.model.specs.Config.{owns}
 use Rattle.model.specs.State.{State, cleared}
-use Rattle.state.specs.Change.{withObject, withContent, configOf}
+use Rattle.state.specs.Change.{withObject, withContent, objectsLent}
 
 -- object n to partition p, cleared or not, where it is hit
 unfoldable pub movedAt : Bool → Bool → ℕ → ℕ → State → State
@@ -32,7 +32,7 @@ moved hit clears kind p b =
 
 -- the objects of a driver (class 1) or a device (class 2)
 unfoldable pub ownedBy : ℕ → List ℕ → List ℕ → ℕ → ℕ → ℕ → Bool
-ownedBy objects class owner a k n = owns (configOf objects 0 [] class owner []) a k n
+ownedBy objects class owner a k n = owns (objectsLent objects 0 [] class owner []) a k n
 
 -- the first k objects of a list
 unfoldable pub listed : List ℕ → ℕ → ℕ → Bool

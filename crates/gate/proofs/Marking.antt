@@ -19,7 +19,7 @@ use Rattle.model.specs.declared.Config.{Config}
 use Rattle.model.specs.declared.Operation.{Operation}
 use Rattle.effect.specs.Moves.{ownedBy, listed}
 use Rattle.gate.specs.Asking.{Marks, InTable}
-use Rattle.state.specs.Change.{configOf}
+use Rattle.state.specs.Change.{objectsLent}
 
 -- how many places a table of objects has
 abbrev pub slots : ℕ
@@ -48,7 +48,7 @@ module _ (n : ℕ) (class owner : List ℕ) (a k : ℕ) where
   Owned = ownedBy n class owner a k
 
   pub owned-start : Upto (replicate slots 0) Owned 0
-  unfolding Upto ownedBy configOf
+  unfolding Upto ownedBy objectsLent
   owned-start = ((λ o h. none o h), λ o h. zeros-at slots o)
     where
       none : (o : ℕ) → o ≤ 0 → eqb (getD {A = ℕ} (replicate slots 0) o 0) 1 ≡ Owned o
@@ -57,7 +57,7 @@ module _ (n : ℕ) (class owner : List ℕ) (a k : ℕ) where
 
   here : (i : ℕ) → i < n → {h : Bool} → h ≡ (eqb (getD class (i + 1) 0) a && eqb (getD owner (i + 1) 0) k)
       → h ≡ Owned (i + 1)
-  unfolding ownedBy configOf
+  unfolding ownedBy objectsLent
   here i l e =
       e ∙ rw (le-leb 1 (i + 1) (omega arith), le-leb (i + 1) n (omega arith))
 
@@ -76,7 +76,7 @@ module _ (n : ℕ) (class owner : List ℕ) (a k : ℕ) where
       at o b (no z) = rw (getD-set-other t (i + 1) o x 0 z) (u .0 o (omega arith))
 
   past : (o : ℕ) → n < o → Owned o ≡ false
-  unfolding ownedBy configOf
+  unfolding ownedBy objectsLent
   past o h = rw (lt-leb o n h) (go (leb 1 o))
     where
       go : (s : Bool) → (s && false) && eqb (getD class o 0) a && eqb (getD owner o 0) k ≡ false
@@ -133,13 +133,13 @@ module _ (config : Config) (op : Operation) where
   pub by-driver : {a : Actor} → a ≡ Driver → (t : List ℕ)
       → Marks t (ownedBy (config .counts .objects) (config .objects .class) (config .objects .owner) 1 (op .subject))
       → Marks t (concerned config op a)
-  unfolding Marks ownedBy configOf
+  unfolding Marks ownedBy objectsLent
   by-driver e t h o = rw e (h o)
 
   pub by-device : {a : Actor} → a ≡ Device → (t : List ℕ)
       → Marks t (ownedBy (config .counts .objects) (config .objects .class) (config .objects .owner) 2 (op .subject))
       → Marks t (concerned config op a)
-  unfolding Marks ownedBy configOf
+  unfolding Marks ownedBy objectsLent
   by-device e t h o = rw e (h o)
 
   pub by-list : {a : Actor} → a ≡ External → (t : List ℕ) → Marks t (listed (op .objects) (op .count))

@@ -31,7 +31,7 @@ use Rattle.model.specs.declared.Config.{Config}
 use Rattle.model.proofs.Lists.{and-l, and-r, every-at}
 use Rattle.model.proofs.StateBytes.{status-byte, driver-byte, device-byte}
 use Rattle.state.specs.Bytes.{AtMost, Highest}
-use Rattle.state.specs.Change.{configOf, lent}
+use Rattle.state.specs.Change.{objectsLent, lent}
 use Rattle.state.specs.Formed.{
   statusesRight,
   isAssigned,
@@ -262,9 +262,10 @@ module _ (room : ℕ) (counts : Counts) (kind class owner hardcoded s : List ℕ
       )
 
       pub formed-objects : (r : Bool) → not v ≡ false
-          → r ≡ objectsRight (configOf (counts .objects) (counts .values) kind class owner hardcoded) (view room s) room
+          → r ≡ objectsRight (objectsLent (counts .objects) (counts .values) kind class owner hardcoded) (view room s)
+          room
           → r ≡ wellFormed room parts (view room s)
-      unfolding wellFormed lent statusesRight objectsRight configOf
+      unfolding wellFormed lent statusesRight objectsRight objectsLent
       formed-objects r x e =
           rw (
             ← f,

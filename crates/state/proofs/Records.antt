@@ -34,7 +34,7 @@ use Rattle.model.specs.State.{
 use Rattle.model.specs.declared.Config.{Config}
 use Rattle.model.proofs.Lists.{and-l, and-r, both-true, bool-cases, every-at, every-intro}
 use Rattle.state.specs.Bytes.{AtMost, Highest, Lesser}
-use Rattle.state.specs.Change.{configOf}
+use Rattle.state.specs.Change.{objectsLent}
 use Rattle.state.specs.Splice.{part}
 use Rattle.state.specs.Formed.{
   isAssigned,
@@ -59,21 +59,21 @@ module _ (room : ℕ) (s : List ℕ) (fits : length s ≡ areaLength room) (n : 
 
   module _ (values : ℕ) (kind owner hardcoded : List ℕ) (k : ℕ) (q : k ≡ getD kind n 0) where
     abbrev holding : Config
-    holding = configOf 0 values kind [] owner hardcoded
+    holding = objectsLent 0 values kind [] owner hardcoded
 
     pub content-hardcoded : (o v : ℕ) (r : Bool) → k ≡ 4 → o ≡ getD owner n 0 → v ≡ getD hardcoded o 0
         → r ≡ isValue (part s (contentPlace n) contentBytes) v → r ≡ contentRight holding (view room s) n
-    unfolding contentRight configOf
+    unfolding contentRight objectsLent
     content-hardcoded o v r a e f t = rw (← q, a, ← e, ← f, shown) t
 
     pub content-value : (r : Bool) → k ≡ 1 → r ≡ isValueTo (part s (contentPlace n) contentBytes) values
         → r ≡ contentRight holding (view room s) n
-    unfolding contentRight configOf
+    unfolding contentRight objectsLent
     content-value r a t =
         rw (← q, a, shown) (t ∙ sym (and-true (isValueTo (part s (contentPlace n) contentBytes) values)))
 
     pub content-free : (k ≡ 4 → ⊥) → (k ≡ 1 → ⊥) → true ≡ contentRight holding (view room s) n
-    unfolding contentRight configOf
+    unfolding contentRight objectsLent
     content-free x y = rw (← q, ne-eqb k 1 y, ne-eqb k 4 x)
 
 -- tables of the partitions of drivers and devices
@@ -139,14 +139,14 @@ settled b p d h = go (bool-cases (eqb p d))
 module _ (room : ℕ) (s : List ℕ) (n : ℕ) (low : 1 ≤ n) (high : n ≤ room) (class owner : List ℕ) (k : ℕ)
     (q : k ≡ getD class n 0) where
   abbrev placing : Config
-  placing = configOf 0 0 [] class owner []
+  placing = objectsLent 0 0 [] class owner []
 
   there : objectIn (view room s) n ≡ getD s (objectPlace n) 0
   there = sym (object-in room s n (λ e. omega arith) high)
 
   pub place-driver : (o : ℕ) (t : List ℕ) → Housed (view room s) → Homes s (driversFrom - 1) mostDrivers t → k ≡ 1
       → o ≡ getD owner n 0 → eqb (getD s (objectPlace n) 0) (getD t o 0) ≡ placeRight placing (view room s) n
-  unfolding placeRight configOf Housed
+  unfolding placeRight objectsLent Housed
   place-driver o t h m a f =
       let g : getD t o 0 ≡ driverIn (view room s) o = driver-home room s t m o in
       rw (there, ← q, a, ← f, ← g)
@@ -155,7 +155,7 @@ module _ (room : ℕ) (s : List ℕ) (n : ℕ) (low : 1 ≤ n) (high : n ≤ roo
 
   pub place-device : (o : ℕ) (t : List ℕ) → Housed (view room s) → Homes s (devicesFrom - 1) mostDevices t → k ≡ 2
       → o ≡ getD owner n 0 → eqb (getD s (objectPlace n) 0) (getD t o 0) ≡ placeRight placing (view room s) n
-  unfolding placeRight configOf Housed
+  unfolding placeRight objectsLent Housed
   place-device o t h m a f =
       let g : getD t o 0 ≡ deviceIn (view room s) o = device-home room s t m o in
       rw (there, ← q, a, ← f, ← g)
@@ -163,7 +163,7 @@ module _ (room : ℕ) (s : List ℕ) (n : ℕ) (low : 1 ≤ n) (high : n ≤ roo
 
   pub place-free : (r : Bool) → (k ≡ 1 → ⊥) → (k ≡ 2 → ⊥) → r ≡ isAssigned (view room s) (getD s (objectPlace n) 0)
       → r ≡ placeRight placing (view room s) n
-  unfolding placeRight configOf isAssigned
+  unfolding placeRight objectsLent isAssigned
   place-free r x y e =
       rw (there, ← q, ne-eqb k 1 x, ne-eqb k 2 y)
       (e ∙ sym (and-true (assigned (view room s) (getD s (objectPlace n) 0))))
@@ -174,20 +174,20 @@ turn-in objects room present i p h = omega (arith, p .second)
 
 module _ (room : ℕ) (s : List ℕ) (objects values : ℕ) (kind class owner hardcoded : List ℕ) where
   abbrev whole : Config
-  whole = configOf objects values kind class owner hardcoded
+  whole = objectsLent objects values kind class owner hardcoded
 
   -- a present one
   here : (n : ℕ) → n ≤ objects → rightObject whole (view room s) n
-      ≡ (placeRight (configOf 0 0 [] class owner []) (view room s) n
-      && contentRight (configOf 0 values kind [] owner hardcoded) (view room s) n)
-  unfolding configOf placeRight contentRight isValue isValueTo
+      ≡ (placeRight (objectsLent 0 0 [] class owner []) (view room s) n
+      && contentRight (objectsLent 0 values kind [] owner hardcoded) (view room s) n)
+  unfolding objectsLent placeRight contentRight isValue isValueTo
   here n h = rw (le-leb n objects h)
 
   -- an absent one
   module _ (fits : length s ≡ areaLength room) (n : ℕ) (low : 1 ≤ n) (high : n ≤ room) (h : objects < n) where
     gone : rightObject whole (view room s) n
         ≡ (eqb (objectIn (view room s) n) 0 && isValue (contentOf (view room s) n) 0)
-    unfolding configOf isValue
+    unfolding objectsLent isValue
     gone = rw (lt-leb n objects h)
 
     place : objectIn (view room s) n ≡ getD s (objectPlace n) 0
@@ -234,22 +234,22 @@ module _ (room : ℕ) (s : List ℕ) (objects values : ℕ) (kind class owner ha
   objects-none = refl
 
   module _ (present i : ℕ) (p : Lesser objects room present) where
-    module _ (t : Bool) (f : t ≡ placeRight (configOf 0 0 [] class owner []) (view room s) (i + 1))
+    module _ (t : Bool) (f : t ≡ placeRight (objectsLent 0 0 [] class owner []) (view room s) (i + 1))
         (h : i < present) where
       pub objects-place : not t ≡ true → false ≡ objectsRight whole (view room s) room
       unfolding objectsRight
       objects-place x =
           every-off (λ n. rightObject whole (view room s) n) room i (omega (arith, p .second))
           (here (i + 1) (omega (arith, p .first))
-          ∙ ap (λ (v : Bool). v && contentRight (configOf 0 values kind [] owner hardcoded) (view room s) (i + 1))
+          ∙ ap (λ (v : Bool). v && contentRight (objectsLent 0 values kind [] owner hardcoded) (view room s) (i + 1))
           (sym f ∙ not-true t x))
 
-      module _ (u : Bool) (m : u ≡ contentRight (configOf 0 values kind [] owner hardcoded) (view room s) (i + 1))
+      module _ (u : Bool) (m : u ≡ contentRight (objectsLent 0 values kind [] owner hardcoded) (view room s) (i + 1))
           (y : not t ≡ false) where
         both-here : rightObject whole (view room s) (i + 1) ≡ u
         both-here =
             here (i + 1) (omega (arith, p .first))
-            ∙ (ap (λ (v : Bool). v && contentRight (configOf 0 values kind [] owner hardcoded) (view room s) (i + 1))
+            ∙ (ap (λ (v : Bool). v && contentRight (objectsLent 0 values kind [] owner hardcoded) (view room s) (i + 1))
             (sym f ∙ not-false t y) ∙ sym m)
 
         pub objects-content : not u ≡ true → false ≡ objectsRight whole (view room s) room

@@ -31,7 +31,7 @@ use Rattle.model.specs.declared.Config.{Config}
 use Rattle.model.proofs.Lists.{all-put, length-put, partly, partly-get, partly-more, partly-all}
 use Rattle.model.proofs.StateLaws.{Sixteen, Shape, view-layout}
 use Rattle.model.proofs.StateBytes.{layout-view}
-use Rattle.state.specs.Change.{withDriver, withDevice, withObject, withContent, configOf}
+use Rattle.state.specs.Change.{withDriver, withDevice, withObject, withContent, objectsLent}
 use Rattle.state.specs.Fresh.{valued}
 use Rattle.state.proofs.Places.{view-shape}
 
@@ -83,8 +83,8 @@ module _ (room : ℕ) (s t : List ℕ) where
   })
 
 -- both columns of objects done up to k
-unfoldable pub upTo : (ℕ → ℕ → ℕ) → (ℕ → List ℕ → List ℕ) → ℕ → State → State
-upTo f g k b =
+unfoldable pub changedTo : (ℕ → ℕ → ℕ) → (ℕ → List ℕ → List ℕ) → ℕ → State → State
+changedTo f g k b =
     record {
       status = b .status;
       driver = b .driver;
@@ -104,13 +104,13 @@ done f g b =
     }
 
 module _ (f : ℕ → ℕ → ℕ) (g : ℕ → List ℕ → List ℕ) where
-  pub up-none : (b : State) → b ≡ upTo f g 0 b
-  unfolding upTo
-  up-none b = refl
+  pub changed-to-none : (b : State) → b ≡ changedTo f g 0 b
+  unfolding changedTo
+  changed-to-none b = refl
 
-  pub up-all : (room k : ℕ) (b : State) → Shape room b → k ≤ room → room ≤ k → upTo f g k b ≡ done f g b
-  unfolding upTo done
-  up-all room k b sh h q = λ i. record {
+  pub changed-to-all : (room k : ℕ) (b : State) → Shape room b → k ≤ room → room ≤ k → changedTo f g k b ≡ done f g b
+  unfolding changedTo done
+  changed-to-all room k b sh h q = λ i. record {
     status = b .status;
     driver = b .driver;
     device = b .device;
@@ -159,19 +159,19 @@ zeros-contents (suc k) =
 -- one object's contents in a fresh state
 module _ (objects : ℕ) (kind owner hardcoded : List ℕ) (n room : ℕ) (s : List ℕ) where
   abbrev Valued : List ℕ → Type 0
-  Valued t = t ≡ layout (valued (configOf objects 0 kind [] owner hardcoded) n (view room s))
+  Valued t = t ≡ layout (valued (objectsLent objects 0 kind [] owner hardcoded) n (view room s))
 
   pub value-absent : length s ≡ areaLength room → objects < n → Valued s
-  unfolding valued configOf
+  unfolding valued objectsLent
   value-absent l h = rw (lt-leb n objects h) (sym (layout-view room s l))
 
   pub value-other : (k : ℕ) → length s ≡ areaLength room → n ≤ objects → k ≡ getD kind n 0 → (k ≡ 4 → ⊥) → Valued s
-  unfolding valued configOf
+  unfolding valued objectsLent
   value-other k l h e x = rw (le-leb n objects h, ← e, ne-eqb k 4 x) (sym (layout-view room s l))
 
   pub value-hardcoded : (k o v : ℕ) (c t : List ℕ) → n ≤ objects → k ≡ getD kind n 0 → k ≡ 4 → o ≡ getD owner n 0
       → v ≡ getD hardcoded o 0 → c ≡ valueBytes v → t ≡ layout (withContent (view room s) n c) → Valued t
-  unfolding valued configOf
+  unfolding valued objectsLent
   value-hardcoded k o v c t h e x f q r g = rw (le-leb n objects h, ← e, x, ← f, ← q, ← r) g
 
 -- the loop of a fresh state
@@ -278,7 +278,7 @@ pub zero-whole : (room : ℕ) (s t : List ℕ) → length s ≡ areaLength room 
 zero-whole room s t l e = rw l at e
 
 pub fresh-whole : (room : ℕ) (config : Config) (u : List ℕ)
-    → u ≡ layout (fresh room (configOf (config .counts .objects) 0 (config .objects .kind) [] (config .objects .owner)
-    (config .devices .hardcoded))) → u ≡ layout (fresh room config)
-unfolding fresh configOf
+    → u ≡ layout (fresh room (objectsLent (config .counts .objects) 0 (config .objects .kind) []
+    (config .objects .owner) (config .devices .hardcoded))) → u ≡ layout (fresh room config)
+unfolding fresh objectsLent
 fresh-whole room config u e = e

@@ -25,8 +25,8 @@ unfoldable pub withContent : State → ℕ → List ℕ → State
 withContent b n c = Columns.withContent b (put (b .content) n c)
 
 -- the configuration with these counts and columns, and no values
-unfoldable pub configOf : ℕ → ℕ → List ℕ → List ℕ → List ℕ → List ℕ → Config
-configOf objects values kind class owner hardcoded =
+unfoldable pub objectsLent : ℕ → ℕ → List ℕ → List ℕ → List ℕ → List ℕ → Config
+objectsLent objects values kind class owner hardcoded =
     record {
       counts = record { drivers = 0; devices = 0; objects = objects; values = values };
       objects = record { kind = kind; class = class; owner = owner };

@@ -8,7 +8,7 @@ ghost use Rattle.model.specs.State.{contentBytes, driversFrom, devicesFrom, rec
 ghost use Rattle.model.specs.State.{areaLength, view, wellFormed};
 ghost use Rattle.state.specs.Bytes.{Lesser};
 ghost use Rattle.state.specs.Splice.{part};
-ghost use Rattle.state.specs.Change.{configOf, lent};
+ghost use Rattle.state.specs.Change.{objectsLent, lent};
 ghost use Rattle.state.specs.Formed.{statusesRight, isAssigned, assignmentRight, assignmentsRight};
 ghost use Rattle.state.specs.Formed.{objectsRight, isValue, isValueTo, contentRight, Housed, placeRight};
 ghost use Rattle.state.specs.Formed.{byteValues, Blank, Homes};
@@ -139,7 +139,7 @@ fn content_formed<'a>(
     requires { ⌜ (1 ≤ n) × (n ≤ room) ⌝ }
     ensures { λ r.
         ⌜ r ≡ contentRight
-        (configOf 0 values (now (kind .entry)) [] (now (owner .entry)) (now (hardcoded .entry)))
+        (objectsLent 0 values (now (kind .entry)) [] (now (owner .entry)) (now (hardcoded .entry)))
         (view room (now (area .entry))) n ⌝ }
 {
     let at = RECORDS_FROM - CONTENT_BYTES + RECORD_BYTES * n;
@@ -185,7 +185,7 @@ fn place_formed<'a>(
     requires { ⌜ Homes (now area) (driversFrom - 1) mostDrivers (now drivers) ⌝ }
     requires { ⌜ Homes (now area) (devicesFrom - 1) mostDevices (now devices) ⌝ }
     ensures { λ r.
-        ⌜ r ≡ placeRight (configOf 0 0 [] (now (class .entry)) (now (owner .entry)) [])
+        ⌜ r ≡ placeRight (objectsLent 0 0 [] (now (class .entry)) (now (owner .entry)) [])
         (view room (now (area .entry))) n ⌝ }
 {
     let p = area[RECORDS_FROM - RECORD_BYTES + RECORD_BYTES * n];
@@ -216,7 +216,7 @@ fn objects_formed<'a>(
     requires { ⌜ Housed (view room (now area)) ⌝ }
     ensures { λ r.
         ⌜ r ≡ objectsRight
-        (configOf objects values (now (kind .entry)) (now (class .entry)) (now (owner .entry))
+        (objectsLent objects values (now (kind .entry)) (now (class .entry)) (now (owner .entry))
         (now (hardcoded .entry))) (view room (now (area .entry))) room ⌝ }
 {
     let mut drivers = [0u8; BYTE_VALUES];

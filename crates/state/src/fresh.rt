@@ -3,7 +3,7 @@ ghost use mathlib.Core.Path.{_≡_};
 ghost use mathlib.Core.List.{[]};
 ghost use lib.ListN.{length, replicate};
 ghost use Rattle.model.specs.State.{areaLength, view, layout, fresh};
-ghost use Rattle.state.specs.Change.{configOf};
+ghost use Rattle.state.specs.Change.{objectsLent};
 ghost use Rattle.state.specs.Fresh.{valued};
 use crate::bytes::byte_at;
 use crate::bytes::value_bytes;
@@ -36,7 +36,7 @@ fn store_hardcoded<'a>(
     requires { ⌜ length (now area) ≡ areaLength room ⌝ }
     ensures { λ _.
         ⌜ now (area .exit) ≡ layout (valued
-        (configOf objects 0 (now (kind .entry)) [] (now (owner .entry)) (now (hardcoded .entry))) n
+        (objectsLent objects 0 (now (kind .entry)) [] (now (owner .entry)) (now (hardcoded .entry))) n
         (view room (now (area .entry)))) ⌝ }
 {
     if objects < n {
@@ -62,7 +62,7 @@ fn store_values<'a>(
     requires { ⌜ now area ≡ replicate (areaLength room) 0 ⌝ }
     ensures { λ _.
         ⌜ now (area .exit) ≡ layout (fresh room
-        (configOf objects 0 (now (kind .entry)) [] (now (owner .entry)) (now (hardcoded .entry)))) ⌝ }
+        (objectsLent objects 0 (now (kind .entry)) [] (now (owner .entry)) (now (hardcoded .entry)))) ⌝ }
 {
     let mut i = 0;
     while i < room {

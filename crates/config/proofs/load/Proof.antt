@@ -3,7 +3,7 @@
 use mathlib.Core.Path.{refl, _∙_}
 use borrow.Author.Needs.{needs}
 use Rattle.model.specs.ConfigFile.{groupsFrom, objectsAt, devicesAt, valuesAt}
-use Rattle.config.proofs.Laws
+use Rattle.config.proofs.Readers
 use Rattle.config.proofs.Questions
 use Rattle.config.proofs.load.Statement.{statement}
 use Rattle.config.proofs.load.Tie as tie
@@ -25,12 +25,12 @@ refuse-requires c κs = search needs
 
 returns : tie.Need-returns
 returns c =
-    Laws.load-stop _ (c .before .before .before .before .read-counts .ensures)
+    Readers.load-stop _ (c .before .before .before .before .read-counts .ensures)
     (c .before .before .enum-told .given .1) (rw (← c .before .head-question .ensures) (c .refuse .ensures))
 
 read-objects-requires : tie.Need-read-objects-requires
 read-objects-requires c κs =
-    Laws.counts-within _ (c .before .before .before .before .before .before .read-counts .ensures)
+    Readers.counts-within _ (c .before .before .before .before .before .before .read-counts .ensures)
     (c .before .before .before .before .head .given .1)
 
 enum-known-p : tie.Need-enum-known-p
@@ -48,15 +48,15 @@ refuse-requires-2 c κs = search needs
 returns-2 : tie.Need-returns-2
 unfolding groupsFrom objectsAt devicesAt valuesAt
 returns-2 c =
-    Laws.load-go _ (c .before .before .before .before .before .before .before .before .before .before .before
+    Readers.load-go _ (c .before .before .before .before .before .before .before .before .before .before .before
     .read-counts .ensures)
     (c .before .before .before .before .before .before .before .before .before .head .given .1)
-    (Laws.group-stop _ _ (c .before .before .before .before .read-objects .ensures)
+    (Readers.group-stop _ _ (c .before .before .before .before .read-objects .ensures)
     (c .before .before .enum-told2 .given .1) (rw (← c .before .reading-question .ensures) (c .refuse2 .ensures)))
 
 read-devices-requires : tie.Need-read-devices-requires
 read-devices-requires c κs =
-    Laws.counts-within _ (c .before .before .before .before .before .before .before .before .before .before
+    Readers.counts-within _ (c .before .before .before .before .before .before .before .before .before .before
     .before .read-counts .ensures)
     (c .before .before .before .before .before .before .before .before .before .head .given .1)
 
@@ -75,20 +75,20 @@ refuse-requires-3 c κs = search needs
 returns-3 : tie.Need-returns-3
 unfolding groupsFrom objectsAt devicesAt valuesAt
 returns-3 c =
-    Laws.load-go _ (c .before .before .before .before .before .before .before .before .before .before .before
+    Readers.load-go _ (c .before .before .before .before .before .before .before .before .before .before .before
     .before .before .before .before .before .read-counts .ensures)
     (c .before .before .before .before .before .before .before .before .before .before .before .before .before
     .before .head .given .1)
-    (Laws.group-go _ _ (c .before .before .before .before .before .before .before .before .before .read-objects
+    (Readers.group-go _ _ (c .before .before .before .before .before .before .before .before .before .read-objects
     .ensures)
     (c .before .before .before .before .before .before .before .p .given .1)
-    (Laws.group-stop _ _ (c .before .before .before .before .read-devices .ensures)
+    (Readers.group-stop _ _ (c .before .before .before .before .read-devices .ensures)
     (c .before .before .enum-told3 .given .1) (rw (← c .before .reading-question2 .ensures) (c .refuse3
     .ensures))))
 
 read-values-requires : tie.Need-read-values-requires
 read-values-requires c κs =
-    Laws.counts-within _ (c .before .before .before .before .before .before .before .before .before .before
+    Readers.counts-within _ (c .before .before .before .before .before .before .before .before .before .before
     .before .before .before .before .before .before .before .before .read-counts .ensures)
     (c .before .before .before .before .before .before .before .before .before .before .before .before .before
     .before .before .before .head .given .1)
@@ -108,19 +108,19 @@ refuse-requires-4 c κs = search needs
 returns-4 : tie.Need-returns-4
 unfolding groupsFrom objectsAt devicesAt valuesAt
 returns-4 c =
-    Laws.load-go _ (c .before .before .before .before .before .before .before .before .before .before .before
+    Readers.load-go _ (c .before .before .before .before .before .before .before .before .before .before .before
     .before .before .before .before .before .before .before .before .before .before .before .before .read-counts
     .ensures)
     (c .before .before .before .before .before .before .before .before .before .before .before .before .before
     .before .before .before .before .before .before .before .before .head .given .1)
-    (Laws.group-go _ _ (c .before .before .before .before .before .before .before .before .before .before .before
+    (Readers.group-go _ _ (c .before .before .before .before .before .before .before .before .before .before .before
     .before .before .before .before .before .read-objects .ensures)
     (c .before .before .before .before .before .before .before .before .before .before .before .before .before
     .before .p .given .1)
-    (Laws.group-go _ _ (c .before .before .before .before .before .before .before .before .before .before .before
+    (Readers.group-go _ _ (c .before .before .before .before .before .before .before .before .before .before .before
     .read-devices .ensures)
     (c .before .before .before .before .before .before .before .before .before .q .given .1)
-    (Laws.group-stop _ _ (c .before .before .before .before .read-values .ensures)
+    (Readers.group-stop _ _ (c .before .before .before .before .read-values .ensures)
     (c .before .before .enum-told4 .given .1) (rw (← c .before .reading-question3 .ensures) (c .refuse4
     .ensures)))))
 
@@ -135,17 +135,17 @@ returns-5 c =
     let d = v .before .before .before .before .before .before .before in
     let o = d .before .before .before .before .before in
     let n = o .before .before .before .before .before .before .before in
-    Laws.load-go _ (n .read-counts .ensures) (o .before .before .before .before .before .head .given .1)
-    (Laws.group-go _ _ (o .read-objects .ensures) (d .before .before .before .p .given .1)
-    (Laws.group-go _ _ (d .read-devices .ensures) (v .before .before .before .before .before .q .given .1)
-    (Laws.group-go _ _ (v .read-values .ensures) (i .before .before .r .given .1)
-    (Laws.left-over _ _ _ (i .if1 .taken) (c .refuse5 .ensures)))))
+    Readers.load-go _ (n .read-counts .ensures) (o .before .before .before .before .before .head .given .1)
+    (Readers.group-go _ _ (o .read-objects .ensures) (d .before .before .before .p .given .1)
+    (Readers.group-go _ _ (d .read-devices .ensures) (v .before .before .before .before .before .q .given .1)
+    (Readers.group-go _ _ (v .read-values .ensures) (i .before .before .r .given .1)
+    (Readers.left-over _ _ _ (i .if1 .taken) (c .refuse5 .ensures)))))
 
 is-paired-requires : tie.Need-is-paired-requires
 is-paired-requires c κs =
     let o = c .before .before .before .before .before .before .before .before .before .before .before .before
     .before .before .before .before .before .before .before .before in (
-      Laws.counts-within _ (o .before .before .before .before .before .before .before .read-counts .ensures) (o
+      Readers.counts-within _ (o .before .before .before .before .before .before .before .read-counts .ensures) (o
           .before .before .before .before .before .head .given .1),
       refl,
     )
@@ -155,7 +155,7 @@ is-restrained-requires c κs =
     let o = c .before .before .before .before .before .before .before .before .before .before .before .before
     .before .before .before .before .before .before .before .before .before .before .before .before .before
     .before .before .before in
-    Laws.counts-within _ (o .before .before .before .before .before .before .before .read-counts .ensures) (o
+    Readers.counts-within _ (o .before .before .before .before .before .before .before .read-counts .ensures) (o
     .before .before .before .before .before .head .given .1)
 
 first-no-requires : tie.Need-first-no-requires
@@ -175,12 +175,12 @@ returns-6 c =
     let d = v .before .before .before .before .before .before .before in
     let o = d .before .before .before .before .before in
     let n = o .before .before .before .before .before .before .before in
-    Laws.load-go _ (n .read-counts .ensures) (o .before .before .before .before .before .head .given .1)
-    (Laws.group-go _ _ (o .read-objects .ensures) (d .before .before .before .p .given .1)
-    (Laws.group-go _ _ (d .read-devices .ensures) (v .before .before .before .before .before .q .given .1)
-    (Laws.group-go _ _ (v .read-values .ensures) (i .before .before .r .given .1)
-    (Laws.not-sound _ _ _
-    (Laws.all-read _ _ _ (i .if1 .left)
+    Readers.load-go _ (n .read-counts .ensures) (o .before .before .before .before .before .head .given .1)
+    (Readers.group-go _ _ (o .read-objects .ensures) (d .before .before .before .p .given .1)
+    (Readers.group-go _ _ (d .read-devices .ensures) (v .before .before .before .before .before .q .given .1)
+    (Readers.group-go _ _ (v .read-values .ensures) (i .before .before .r .given .1)
+    (Readers.not-sound _ _ _
+    (Readers.all-read _ _ _ (i .if1 .left)
     (a .is-paired .ensures ∙ Questions.paired-same _) (j .is-restrained .ensures) (f .first-no .ensures))
     (c .before .if2 .taken) (c .refuse6 .ensures)))))
 
@@ -198,12 +198,12 @@ returns-7 c =
     let d = v .before .before .before .before .before .before .before in
     let o = d .before .before .before .before .before in
     let n = o .before .before .before .before .before .before .before in
-    Laws.load-go _ (n .read-counts .ensures) (o .before .before .before .before .before .head .given .1)
-    (Laws.group-go _ _ (o .read-objects .ensures) (d .before .before .before .p .given .1)
-    (Laws.group-go _ _ (d .read-devices .ensures) (v .before .before .before .before .before .q .given .1)
-    (Laws.group-go _ _ (v .read-values .ensures) (i .before .before .r .given .1)
-    (Laws.accepts _ _ _
-    (Laws.all-read _ _ _ (i .if1 .left)
+    Readers.load-go _ (n .read-counts .ensures) (o .before .before .before .before .before .head .given .1)
+    (Readers.group-go _ _ (o .read-objects .ensures) (d .before .before .before .p .given .1)
+    (Readers.group-go _ _ (d .read-devices .ensures) (v .before .before .before .before .before .q .given .1)
+    (Readers.group-go _ _ (v .read-values .ensures) (i .before .before .r .given .1)
+    (Readers.accepts _ _ _
+    (Readers.all-read _ _ _ (i .if1 .left)
     (a .is-paired .ensures ∙ Questions.paired-same _) (j .is-restrained .ensures) (f .first-no .ensures))
     (c .before .if2 .left) (c .accept .ensures)))))
 

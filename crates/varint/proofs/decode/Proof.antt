@@ -1,6 +1,6 @@
 -- `varint::decode` meets its contract: one byte is the law `number-one`, the rest is the callee's. Assumes nothing.
 use borrow.Author.Needs.{needs}
-use Rattle.varint.proofs.Laws.{number-one, meant}
+use Rattle.varint.proofs.Numbers.{number-one, meant}
 use Rattle.varint.proofs.decode.Statement.{statement}
 use Rattle.varint.proofs.decode.Tie as tie
 

@@ -4,7 +4,7 @@ use mathlib.Core.Path.{_≡_, refl}
 use native.Mathlib.Omega.{arith}
 use borrow.Author.Needs.{needs}
 use Rattle.varint.specs.Run.{runBytes, highRun}
-use Rattle.varint.proofs.Laws
+use Rattle.varint.proofs.Numbers
 use Rattle.varint.proofs.is_run.Statement.{statement}
 use Rattle.varint.proofs.is_run.Tie as tie
 
@@ -18,10 +18,10 @@ sub-if1 : tie.Need-sub-if1 Inv-loop μ-loop
 sub-if1 c = search needs
 
 returns : tie.Need-returns Inv-loop μ-loop
-returns c = Laws.run-none _ _ (c .if1 .taken)
+returns c = Numbers.run-none _ _ (c .if1 .taken)
 
 loop-holds : tie.Need-loop-holds Inv-loop μ-loop
-loop-holds c = (search needs, Laws.run-start _ _)
+loop-holds c = (search needs, Numbers.run-start _ _)
 
 add-high : tie.Need-add-high Inv-loop μ-loop
 add-high c = search needs
@@ -36,11 +36,11 @@ loop-less : tie.Need-loop-less Inv-loop μ-loop
 loop-less c = search needs
 
 loop-again : tie.Need-loop-again Inv-loop μ-loop
-loop-again c = (search needs, Laws.run-more _ _ _ _ _ (c .before .before .loop .inv .1) refl)
+loop-again c = (search needs, Numbers.run-more _ _ _ _ _ (c .before .before .loop .inv .1) refl)
 
 returns-2 : tie.Need-returns-2 Inv-loop μ-loop
 returns-2 c =
-    Laws.run-end _ _ _ _ (c .before .before .if1 .left) (c .before .loop .inv .0) (c .loop-test .left)
+    Numbers.run-end _ _ _ _ (c .before .before .if1 .left) (c .before .loop .inv .0) (c .loop-test .left)
     (c .before .loop .inv .1)
 
 pub is-run-spec : {M : Type 1} → statement M

@@ -7,7 +7,7 @@ use native.Mathlib.Numerals.{add-one}
 use borrow.Author.Needs.{needs}
 use lib.ListN.{drop}
 use Rattle.model.specs.Number.{mostBytes, lead}
-use Rattle.varint.proofs.Laws.{lead-last, lead-more, lead-end}
+use Rattle.varint.proofs.Numbers.{lead-last, lead-more, lead-end}
 use Rattle.varint.proofs.last.Statement.{statement}
 use Rattle.varint.proofs.last.Tie as tie
 

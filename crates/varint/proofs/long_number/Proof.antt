@@ -8,7 +8,7 @@ use mathlib.Core.Logic.{⊎-elim}
 use Prim.Native.Nat.{_-_}
 use lib.ListN.{drop}
 use Rattle.model.specs.Number.{shortest}
-use Rattle.varint.proofs.Laws
+use Rattle.varint.proofs.Numbers
 use Rattle.varint.proofs.long_number.Statement.{statement}
 use Rattle.varint.proofs.long_number.Tie as tie
 
@@ -16,25 +16,25 @@ last-requires : tie.Need-last-requires
 last-requires c κs = search needs
 
 returns : tie.Need-returns
-returns c = sym (Laws.number-cut _ _ _ (c .before .last .ensures) (c .if1 .taken))
+returns c = sym (Numbers.number-cut _ _ _ (c .before .last .ensures) (c .if1 .taken))
 
 sub-n : tie.Need-sub-n
 sub-n c = search needs
 
 returns-2 : tie.Need-returns-2
 returns-2 c =
-    sym (Laws.number-form _ _ _ (c .before .before .last .ensures) (omega arith)
-    ∙ Laws.form-bad _ _ _ (Laws.formed-long _ _ (c .if2 .taken)))
+    sym (Numbers.number-form _ _ _ (c .before .before .last .ensures) (omega arith)
+    ∙ Numbers.form-bad _ _ _ (Numbers.formed-long _ _ (c .if2 .taken)))
 
 shared-slice-read-if4 : tie.Need-shared-slice-read-if4
 shared-slice-read-if4 c = search needs
 
 returns-3 : tie.Need-returns-3
 returns-3 c =
-    sym (Laws.number-form _ _ _ (c .before .before .before .before .before .last .ensures) (omega arith)
-    ∙ Laws.form-bad _ _ _
-    (Laws.formed-padded _ _ (c .before .before .before .if2 .left)
-    (Laws.shortest-not _ _ _ (Laws.last-byte _ _ _ (c .before .before .before .before .before .last .ensures))
+    sym (Numbers.number-form _ _ _ (c .before .before .before .before .before .last .ensures) (omega arith)
+    ∙ Numbers.form-bad _ _ _
+    (Numbers.formed-padded _ _ (c .before .before .before .if2 .left)
+    (Numbers.shortest-not _ _ _ (Numbers.last-byte _ _ _ (c .before .before .before .before .before .last .ensures))
     (c .before .before .if3 .taken) (c .if4 .taken))))
 
 value-requires : tie.Need-value-requires
@@ -45,24 +45,24 @@ short : (c : tie.Joined3) →
     let a = c .before .before .before .before .before .args in
     shortest (drop (a .at) (a .s .now)) (c .before .before .before .last .result - a .at) ≡ true
 short c =
-    ⊎-elim (λ w. Laws.shortest-more _ _ _ (Laws.last-byte _ _ _ (c .before .before .before .last .ensures))
+    ⊎-elim (λ w. Numbers.shortest-more _ _ _ (Numbers.last-byte _ _ _ (c .before .before .before .last .ensures))
     (w .2 .left))
-    (λ w. Laws.shortest-one _ _ (w .left)) (c .if3 .came)
+    (λ w. Numbers.shortest-one _ _ (w .left)) (c .if3 .came)
 
 returns-4 : tie.Need-returns-4
 returns-4 c =
-    sym (Laws.number-form _ _ _ (c .before .before .before .before .before .last .ensures) (omega arith)
-    ∙ Laws.form-bad _ _ _
-    (Laws.formed-large _ _ _ (c .before .value .ensures) (omega arith) (short (c .before .before)) (c .if5 .taken)))
+    sym (Numbers.number-form _ _ _ (c .before .before .before .before .before .last .ensures) (omega arith)
+    ∙ Numbers.form-bad _ _ _
+    (Numbers.formed-large _ _ _ (c .before .value .ensures) (omega arith) (short (c .before .before)) (c .if5 .taken)))
 
 add-t6 : tie.Need-add-t6
 add-t6 c = search needs
 
 returns-5 : tie.Need-returns-5
 returns-5 c =
-    sym (Laws.number-form _ _ _ (c .before .before .before .before .before .last .ensures) (omega arith)
-    ∙ Laws.form-got _ _ _ _ _ (omega arith) (c .before .value .ensures)
-    (Laws.formed-right _ _ _ (c .before .value .ensures) (omega arith) (short (c .before .before)) (c .if5 .left)))
+    sym (Numbers.number-form _ _ _ (c .before .before .before .before .before .last .ensures) (omega arith)
+    ∙ Numbers.form-got _ _ _ _ _ (omega arith) (c .before .value .ensures)
+    (Numbers.formed-right _ _ _ (c .before .value .ensures) (omega arith) (short (c .before .before)) (c .if5 .left)))
 
 pub long-number-spec : {M : Type 1} → statement M
 long-number-spec =

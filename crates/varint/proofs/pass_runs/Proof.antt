@@ -7,7 +7,7 @@ use borrow.Author.Tests.{not-false}
 use lib.ListN.{length, drop}
 use Rattle.model.specs.Number.{lead}
 use Rattle.varint.specs.Run.{fullRun}
-use Rattle.varint.proofs.Laws
+use Rattle.varint.proofs.Numbers
 use Rattle.varint.proofs.pass_runs.Statement.{statement}
 use Rattle.varint.proofs.pass_runs.Tie as tie
 
@@ -29,14 +29,14 @@ returns c = search needs
 add-i : tie.Need-add-i Inv-loop μ-loop
 add-i c =
     let r = sym (c .before .is-run .ensures) ∙ not-false (c .before .is-run .result) (c .if1 .left) in
-    omega (arith, Laws.run-room _ _ (c .before .before .loop-test .taken) r)
+    omega (arith, Numbers.run-room _ _ (c .before .before .loop-test .taken) r)
 
 loop-less : tie.Need-loop-less Inv-loop μ-loop
 loop-less c = search needs
 
 loop-again : tie.Need-loop-again Inv-loop μ-loop
 loop-again c =
-    Laws.run-passed _ _ (c .before .before .loop-test .taken)
+    Numbers.run-passed _ _ (c .before .before .loop-test .taken)
     (sym (c .before .is-run .ensures) ∙ not-false (c .before .is-run .result) (c .if1 .left))
     ∙ c .before .before .before .loop .inv
 

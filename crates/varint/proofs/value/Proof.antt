@@ -4,7 +4,7 @@ use borrow.Author.Needs.{needs}
 use native.Mathlib.Omega.{arith}
 use Prim.Native.Nat.{_+_}
 use mathlib.Core.Path.{_≡_}
-use Rattle.varint.proofs.Laws
+use Rattle.varint.proofs.Numbers
 use Rattle.varint.proofs.value.Statement.{statement}
 use Rattle.varint.proofs.value.Tie as tie
 
@@ -18,7 +18,7 @@ returns : tie.Need-returns
 returns c =
     rw (
       c .if1 .taken,
-      Laws.value-last (c .before .before .before .before .args .s .now)
+      Numbers.value-last (c .before .before .before .before .args .s .now)
           (c .before .before .before .before .args .at) (omega arith),
     ) (c .before .wide .ensures .0)
 
@@ -42,8 +42,8 @@ returns-2 c =
     let a = c .before .before .before .before .before .before .before .args in
     rw (
       c .if2 .taken,
-      Laws.value-more (a .s .now) (a .at) (omega arith) 0,
-      Laws.value-last (a .s .now) (a .at + 1) (omega arith),
+      Numbers.value-more (a .s .now) (a .at) (omega arith) 0,
+      Numbers.value-last (a .s .now) (a .at + 1) (omega arith),
       c .before .before .before .before .wide .ensures .0,
       c .before .wide2 .ensures .0,
     )
@@ -76,9 +76,9 @@ returns-3 c =
     let next : a .at + 1 + 1 ≡ a .at + 2 = omega arith in
     rw (
       two,
-      Laws.value-more (a .s .now) (a .at) (omega arith) 1,
-      Laws.value-more (a .s .now) (a .at + 1) (omega arith) 0,
-      Laws.value-last (a .s .now) (a .at + 1 + 1) (omega arith),
+      Numbers.value-more (a .s .now) (a .at) (omega arith) 1,
+      Numbers.value-more (a .s .now) (a .at + 1) (omega arith) 0,
+      Numbers.value-last (a .s .now) (a .at + 1 + 1) (omega arith),
       next,
       c .before .before .before .before .before .before .wide .ensures .0,
       c .before .before .before .wide2 .ensures .0,

@@ -4,7 +4,7 @@ use borrow.Author.Needs.{needs}
 use Rattle.model.specs.declared.Config.{Config}
 use Rattle.model.specs.declared.Devices.{Devices}
 use Rattle.model.specs.State.{view}
-use Rattle.closure.specs.Scene.{configOf}
+use Rattle.closure.specs.Scene.{searchConfig}
 use Rattle.closure.specs.Rules.{naming}
 use Rattle.closure.proofs.Answering.{naming-answer, naming-entry}
 use Rattle.closure.proofs.answer.naming.Statement.{statement}
@@ -21,7 +21,7 @@ answer-requires c κs = search needs
 returns : tie.Need-returns
 returns c =
     let a = c .before .before .before .before in
-    let s : Devices → Config = λ d. configOf d (a .args .counts) (now (a .args .kind)) (now (a .args .class))
+    let s : Devices → Config = λ d. searchConfig d (a .args .counts) (now (a .args .kind)) (now (a .args .class))
     (now (a .args .owner)) (now (a .args .count)) (now (a .args .entries)) in
     let b = view (a .args .room) (now (a .args .area)) in
     let t = now (a .args .concerned) in (

@@ -6,7 +6,7 @@ use mathlib.Core.List.{[]}
 use mathlib.Core.Path.{sym, _∙_}
 use denote.Ref.{now}
 use Rattle.model.specs.State.{view}
-use Rattle.closure.specs.Scene.{configOf}
+use Rattle.closure.specs.Scene.{searchConfig}
 use Rattle.closure.proofs.Ranges.{owned-kind}
 use Rattle.closure.proofs.Describing.{owned-none, owned-held}
 use borrow.Author.Needs.{needs}
@@ -21,7 +21,7 @@ returns c =
     let a = c .before .before .before in
     owned-none (now (a .args .kind)) (now (a .args .class)) (now (a .args .owner))
     (view (a .args .room) (now (a .args .area))) (a .args .device) (a .args .o)
-    (λ e. c .if1 .taken (owned-kind (configOf (record { hardcoded = [] }) (a .args .counts) (now (a .args .kind))
+    (λ e. c .if1 .taken (owned-kind (searchConfig (record { hardcoded = [] }) (a .args .counts) (now (a .args .kind))
     (now (a .args .class)) (now (a .args .owner)) [] []) (view (a .args .room) (now (a .args .area)))
     (a .args .device) (a .args .o) e))
 

@@ -1,7 +1,7 @@
 -- `config::fields::read_field` meets its contract: the laws of `fieldAt` go by what the number reader answered.
 -- Assumes nothing.
 use borrow.Author.Needs.{needs}
-use Rattle.config.proofs.Laws
+use Rattle.config.proofs.Readers
 use Rattle.config.proofs.fields.read_field.Statement.{statement}
 use Rattle.config.proofs.fields.read_field.Tie as tie
 
@@ -19,18 +19,18 @@ num-question-requires c κs = search needs
 
 returns : tie.Need-returns
 returns c =
-    Laws.field-bad _ _ _ _ _ (c .before .before .before .decode .ensures .0) _ _ (c .before .enum-told .given .1)
+    Readers.field-bad _ _ _ _ _ (c .before .before .before .decode .ensures .0) _ _ (c .before .enum-told .given .1)
     (c .num-question .ensures)
 
 returns-2 : tie.Need-returns-2
 returns-2 c =
-    Laws.field-low _ _ _ _ _ (c .before .before .before .before .decode .ensures .0) _ _
+    Readers.field-low _ _ _ _ _ (c .before .before .before .before .decode .ensures .0) _ _
     (c .before .before .n .given .1)
     (c .if1 .taken)
 
 returns-3 : tie.Need-returns-3
 returns-3 c =
-    Laws.field-high _ _ _ _ _ (c .before .before .before .before .before .decode .ensures .0) _ _
+    Readers.field-high _ _ _ _ _ (c .before .before .before .before .before .decode .ensures .0) _ _
     (c .before .before .before .n .given .1) (c .if2 .taken)
 
 cast-t11 : tie.Need-cast-t11
@@ -38,7 +38,7 @@ cast-t11 c = search needs
 
 returns-4 : tie.Need-returns-4
 returns-4 c =
-    Laws.field-value _ _ _ _ _ (c .before .before .before .before .before .decode .ensures .0) _ _
+    Readers.field-value _ _ _ _ _ (c .before .before .before .before .before .decode .ensures .0) _ _
     (c .before .before .before .n .given .1) (c .before .if1 .left) (c .if2 .left)
 
 pub read-field-spec : {M : Type 1} → statement M

@@ -3,7 +3,7 @@
 use mathlib.Core.Path.{refl}
 use borrow.Author.Needs.{needs}
 use Rattle.model.specs.ConfigFile.{countsAt}
-use Rattle.config.proofs.Laws
+use Rattle.config.proofs.Readers
 use Rattle.config.proofs.groups.counts_by_fields.Statement.{statement}
 use Rattle.config.proofs.groups.counts_by_fields.Tie as tie
 
@@ -22,7 +22,7 @@ stopped-requires c κs = search needs
 returns : tie.Need-returns
 unfolding countsAt
 returns c =
-    Laws.on-stop _ _ _ (c .before .before .before .read-field .ensures) (c .before .enum-told .given .1)
+    Readers.on-stop _ _ _ (c .before .before .before .read-field .ensures) (c .before .enum-told .given .1)
     (rw (c .stopped .ensures))
 
 read-field-requires-2 : tie.Need-read-field-requires-2
@@ -40,9 +40,9 @@ stopped-requires-2 c κs = search needs
 returns-2 : tie.Need-returns-2
 unfolding countsAt
 returns-2 c =
-    Laws.on-go _ _ _ (c .before .before .before .before .before .before .before .read-field .ensures)
+    Readers.on-go _ _ _ (c .before .before .before .before .before .before .before .read-field .ensures)
     (c .before .before .before .before .before .f .given .1)
-    (Laws.on-stop _ _ _ (c .before .before .before .read-field2 .ensures) (c .before .enum-told2 .given .1)
+    (Readers.on-stop _ _ _ (c .before .before .before .read-field2 .ensures) (c .before .enum-told2 .given .1)
     (rw (c .stopped2 .ensures)))
 
 read-field-requires-3 : tie.Need-read-field-requires-3
@@ -60,12 +60,12 @@ stopped-requires-3 c κs = search needs
 returns-3 : tie.Need-returns-3
 unfolding countsAt
 returns-3 c =
-    Laws.on-go _ _ _
+    Readers.on-go _ _ _
     (c .before .before .before .before .before .before .before .before .before .before .before .read-field .ensures)
     (c .before .before .before .before .before .before .before .before .before .f .given .1)
-    (Laws.on-go _ _ _ (c .before .before .before .before .before .before .before .read-field2 .ensures)
+    (Readers.on-go _ _ _ (c .before .before .before .before .before .before .before .read-field2 .ensures)
     (c .before .before .before .before .before .g .given .1)
-    (Laws.on-stop _ _ _ (c .before .before .before .read-field3 .ensures) (c .before .enum-told3 .given .1)
+    (Readers.on-stop _ _ _ (c .before .before .before .read-field3 .ensures) (c .before .enum-told3 .given .1)
     (rw (c .stopped3 .ensures))))
 
 read-field-requires-4 : tie.Need-read-field-requires-4
@@ -83,17 +83,17 @@ stopped-requires-4 c κs = search needs
 returns-4 : tie.Need-returns-4
 unfolding countsAt
 returns-4 c =
-    Laws.on-go _ _ _
+    Readers.on-go _ _ _
     (c .before .before .before .before .before .before .before .before .before .before .before .before .before .before
     .before .read-field .ensures)
     (c .before .before .before .before .before .before .before .before .before .before .before .before .before .f
     .given .1)
-    (Laws.on-go _ _ _
+    (Readers.on-go _ _ _
     (c .before .before .before .before .before .before .before .before .before .before .before .read-field2 .ensures)
     (c .before .before .before .before .before .before .before .before .before .g .given .1)
-    (Laws.on-go _ _ _ (c .before .before .before .before .before .before .before .read-field3 .ensures)
+    (Readers.on-go _ _ _ (c .before .before .before .before .before .before .before .read-field3 .ensures)
     (c .before .before .before .before .before .h .given .1)
-    (Laws.on-stop _ _ _ (c .before .before .before .read-field4 .ensures) (c .before .enum-told4 .given .1)
+    (Readers.on-stop _ _ _ (c .before .before .before .read-field4 .ensures) (c .before .enum-told4 .given .1)
     (rw (c .stopped4 .ensures)))))
 
 read-field-requires-5 : tie.Need-read-field-requires-5
@@ -111,43 +111,43 @@ stopped-requires-5 c κs = search needs
 returns-5 : tie.Need-returns-5
 unfolding countsAt
 returns-5 c =
-    Laws.on-go _ _ _
+    Readers.on-go _ _ _
     (c .before .before .before .before .before .before .before .before .before .before .before .before .before .before
     .before .before .before .before .before .read-field .ensures)
     (c .before .before .before .before .before .before .before .before .before .before .before .before .before .before
     .before .before .before .f .given .1)
-    (Laws.on-go _ _ _
+    (Readers.on-go _ _ _
     (c .before .before .before .before .before .before .before .before .before .before .before .before .before .before
     .before .read-field2 .ensures)
     (c .before .before .before .before .before .before .before .before .before .before .before .before .before .g
     .given .1)
-    (Laws.on-go _ _ _
+    (Readers.on-go _ _ _
     (c .before .before .before .before .before .before .before .before .before .before .before .read-field3 .ensures)
     (c .before .before .before .before .before .before .before .before .before .h .given .1)
-    (Laws.on-go _ _ _ (c .before .before .before .before .before .before .before .read-field4 .ensures)
+    (Readers.on-go _ _ _ (c .before .before .before .before .before .before .before .read-field4 .ensures)
     (c .before .before .before .before .before .j .given .1)
-    (Laws.on-stop _ _ _ (c .before .before .before .read-field5 .ensures) (c .before .enum-told5 .given .1)
+    (Readers.on-stop _ _ _ (c .before .before .before .read-field5 .ensures) (c .before .enum-told5 .given .1)
     (rw (c .stopped5 .ensures))))))
 
 returns-6 : tie.Need-returns-6
 unfolding countsAt
 returns-6 c =
-    Laws.on-go _ _ _
+    Readers.on-go _ _ _
     (c .before .before .before .before .before .before .before .before .before .before .before .before .before .before
     .before .before .before .before .before .read-field .ensures)
     (c .before .before .before .before .before .before .before .before .before .before .before .before .before .before
     .before .before .before .f .given .1)
-    (Laws.on-go _ _ _
+    (Readers.on-go _ _ _
     (c .before .before .before .before .before .before .before .before .before .before .before .before .before .before
     .before .read-field2 .ensures)
     (c .before .before .before .before .before .before .before .before .before .before .before .before .before .g
     .given .1)
-    (Laws.on-go _ _ _
+    (Readers.on-go _ _ _
     (c .before .before .before .before .before .before .before .before .before .before .before .read-field3 .ensures)
     (c .before .before .before .before .before .before .before .before .before .h .given .1)
-    (Laws.on-go _ _ _ (c .before .before .before .before .before .before .before .read-field4 .ensures)
+    (Readers.on-go _ _ _ (c .before .before .before .before .before .before .before .read-field4 .ensures)
     (c .before .before .before .before .before .j .given .1)
-    (Laws.on-go _ _ _ (c .before .before .before .read-field5 .ensures) (c .before .k .given .1)
+    (Readers.on-go _ _ _ (c .before .before .before .read-field5 .ensures) (c .before .k .given .1)
     (refl)))))
 
 pub counts-by-fields-spec : {M : Type 1} → statement M

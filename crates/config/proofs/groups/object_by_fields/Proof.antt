@@ -3,7 +3,7 @@
 use mathlib.Core.Path.{refl}
 use borrow.Author.Needs.{needs}
 use Rattle.model.specs.ConfigFile.{object, stop, read, setObject}
-use Rattle.config.proofs.Laws
+use Rattle.config.proofs.Readers
 use Rattle.config.proofs.groups.object_by_fields.Statement.{statement}
 use Rattle.config.proofs.groups.object_by_fields.Tie as tie
 
@@ -22,7 +22,7 @@ refused-requires c κs = search needs
 returns : tie.Need-returns
 unfolding object stop read setObject
 returns c =
-    Laws.on-stop _ _ _ (c .before .before .before .read-field .ensures) (c .before .enum-told .given .1)
+    Readers.on-stop _ _ _ (c .before .before .before .read-field .ensures) (c .before .enum-told .given .1)
     (rw (c .refused .ensures))
 
 read-field-requires-2 : tie.Need-read-field-requires-2
@@ -40,9 +40,9 @@ refused-requires-2 c κs = search needs
 returns-2 : tie.Need-returns-2
 unfolding object stop read setObject
 returns-2 c =
-    Laws.on-go _ _ _ (c .before .before .before .before .before .before .before .read-field .ensures)
+    Readers.on-go _ _ _ (c .before .before .before .before .before .before .before .read-field .ensures)
     (c .before .before .before .before .before .f .given .1)
-    (Laws.on-stop _ _ _ (c .before .before .before .read-field2 .ensures) (c .before .enum-told2 .given .1)
+    (Readers.on-stop _ _ _ (c .before .before .before .read-field2 .ensures) (c .before .enum-told2 .given .1)
     (rw (c .refused2 .ensures)))
 
 owner-least-requires : tie.Need-owner-least-requires
@@ -66,14 +66,14 @@ refused-requires-3 c κs = search needs
 returns-3 : tie.Need-returns-3
 unfolding object stop read setObject
 returns-3 c =
-    Laws.on-go _ _ _
+    Readers.on-go _ _ _
     (c .before .before .before .before .before .before .before .before .before .before .before .before .before
     .read-field .ensures)
     (c .before .before .before .before .before .before .before .before .before .before .before .f .given .1)
-    (Laws.on-go _ _ _
+    (Readers.on-go _ _ _
     (c .before .before .before .before .before .before .before .before .before .read-field2 .ensures)
     (c .before .before .before .before .before .before .before .g .given .1)
-    (Laws.on-stop _ _ _ (cc (
+    (Readers.on-stop _ _ _ (cc (
       c .before .before .before .read-field3 .ensures,
       c .before .before .before .before .owner-most .ensures,
       c .before .before .before .before .before .owner-least .ensures,
@@ -92,14 +92,14 @@ element-write-owner c = search needs
 returns-4 : tie.Need-returns-4
 unfolding object stop read setObject
 returns-4 c =
-    Laws.on-go _ _ _
+    Readers.on-go _ _ _
     (c .before .before .before .before .before .before .before .before .before .before .before .before .before
     .read-field .ensures)
     (c .before .before .before .before .before .before .before .before .before .before .before .f .given .1)
-    (Laws.on-go _ _ _
+    (Readers.on-go _ _ _
     (c .before .before .before .before .before .before .before .before .before .read-field2 .ensures)
     (c .before .before .before .before .before .before .before .g .given .1)
-    (Laws.on-go _ _ _ (cc (
+    (Readers.on-go _ _ _ (cc (
       c .before .before .before .read-field3 .ensures,
       c .before .before .before .before .owner-most .ensures,
       c .before .before .before .before .before .owner-least .ensures,

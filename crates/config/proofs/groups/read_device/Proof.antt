@@ -3,7 +3,7 @@
 use mathlib.Core.Path.{refl}
 use borrow.Author.Needs.{needs}
 use Rattle.model.specs.ConfigFile.{device, stop, read, setDevice}
-use Rattle.config.proofs.Laws
+use Rattle.config.proofs.Readers
 use Rattle.config.proofs.groups.read_device.Statement.{statement}
 use Rattle.config.proofs.groups.read_device.Tie as tie
 
@@ -22,7 +22,7 @@ refused-requires c κs = search needs
 returns : tie.Need-returns
 unfolding device stop read setDevice
 returns c =
-    Laws.on-stop _ _ _ (c .before .before .before .quick-field .ensures) (c .before .enum-told .given .1)
+    Readers.on-stop _ _ _ (c .before .before .before .quick-field .ensures) (c .before .enum-told .given .1)
     (rw (c .refused .ensures))
 
 element-write-hardcoded : tie.Need-element-write-hardcoded
@@ -30,7 +30,7 @@ element-write-hardcoded c = search needs
 
 returns-2 : tie.Need-returns-2
 unfolding device stop read setDevice
-returns-2 c = Laws.on-go _ _ _ (c .before .before .before .quick-field .ensures) (c .before .f .given .1)
+returns-2 c = Readers.on-go _ _ _ (c .before .before .before .quick-field .ensures) (c .before .f .given .1)
     (refl)
 
 pub read-device-spec : {M : Type 1} → statement M

@@ -5,7 +5,7 @@ use Prim.Native.Nat.{_≤_, _-_}
 use mathlib.Core.Path.{_≡_, sym, _∙_}
 use Rattle.config.specs.Columns.{devicesOf}
 use Rattle.model.specs.ConfigFile.{turns, device}
-use Rattle.config.proofs.Laws
+use Rattle.config.proofs.Readers
 use Rattle.config.proofs.groups.read_devices.Statement.{statement}
 use Rattle.config.proofs.groups.read_devices.Tie as tie
 
@@ -18,7 +18,7 @@ abbrev μ-loop : tie.MeasureT-loop
 μ-loop s counts at hardcoded₀ n i₀ p₀ hardcoded i p = n - i
 
 loop-holds : tie.Need-loop-holds Inv-loop μ-loop
-loop-holds c = (search needs, Laws.turns-start _ _ 0 _ _)
+loop-holds c = (search needs, Readers.turns-start _ _ 0 _ _)
 
 add-i : tie.Need-add-i Inv-loop μ-loop
 add-i c = search needs
@@ -34,7 +34,7 @@ enum-told c = search needs
 
 returns : tie.Need-returns Inv-loop μ-loop
 returns c =
-    sym (Laws.turns-stop _ _ _ _ _ (c .before .before .before .before .loop-test .taken)
+    sym (Readers.turns-stop _ _ _ _ _ (c .before .before .before .before .loop-test .taken)
     (c .before .before .read-device .ensures) (c .enum-told .given .1))
     ∙ c .before .before .before .before .before .loop .inv .1
 
@@ -44,13 +44,13 @@ loop-less c = search needs
 loop-again : tie.Need-loop-again Inv-loop μ-loop
 loop-again c = (
   search needs,
-  sym (Laws.turns-go _ _ _ _ _ (c .before .before .before .before .before .loop-test .taken)
+  sym (Readers.turns-go _ _ _ _ _ (c .before .before .before .before .before .loop-test .taken)
       (c .before .before .before .read-device .ensures) (c .before .r .given .1))
       ∙ c .before .before .before .before .before .before .loop .inv .1,
 )
 
 returns-2 : tie.Need-returns-2 Inv-loop μ-loop
-returns-2 c = sym (Laws.turns-end _ _ _ _ _ (c .loop-test .left)) ∙ c .before .loop .inv .1
+returns-2 c = sym (Readers.turns-end _ _ _ _ _ (c .loop-test .left)) ∙ c .before .loop .inv .1
 
 pub read-devices-spec : {M : Type 1} → statement M
 read-devices-spec =

@@ -7,14 +7,14 @@ use mathlib.Core.Bool.{true}
 use mathlib.Core.Path.{_≡_, refl, sym, ap, subst, _∙_}
 use lib.ListN.{length, getD}
 use Rattle.model.specs.Config.{mostDevices}
-use Rattle.config.specs.Sound.{upTo, deviceOwned}
+use Rattle.config.specs.Sound.{everyTo, deviceOwned}
 use Rattle.config.proofs.Questions
 use Rattle.config.proofs.sound.is_paired.Statement.{statement}
 use Rattle.config.proofs.sound.is_paired.Tie as tie
 
 abbrev Inv-loop : tie.InvT-loop
 Inv-loop counts kind class owner end owned₀ i₀ owned i =
-    (i ≤ counts .objects) × (length owned ≡ suc mostDevices) × (upTo i (deviceOwned kind class) ≡ true)
+    (i ≤ counts .objects) × (length owned ≡ suc mostDevices) × (everyTo i (deviceOwned kind class) ≡ true)
     × Questions.Counted kind class owner i owned
 
 abbrev μ-loop : tie.MeasureT-loop
@@ -28,7 +28,7 @@ loop-holds c =
     let zeros = c .before .pre .1 in (
       search needs,
       ap length zeros,
-      Questions.up-start _,
+      Questions.every-to-start _,
       subst (Questions.Counted _ _ _ 0) (sym zeros) (Questions.counted-start _ _ _ (suc mostDevices)),
     )
 
@@ -68,7 +68,7 @@ loop-again c = (
   search needs,
   Questions.note-kept _ _ _ _ (c .before .before .before .before .before .before .before .loop .inv .1)
       (c .before .note .ensures .1),
-  Questions.up-go _ _ (c .before .before .before .before .before .before .before .loop .inv .2)
+  Questions.every-to-go _ _ (c .before .before .before .before .before .before .before .loop .inv .2)
       (sym (c .before .note .ensures .0) ∙ not-false (c .before .note .result) (c .if1 .left)),
   Questions.counted-go _ _ _ _ _ _ (c .before .before .before .before .before .before .before .loop .inv .3)
       (c .before .note .ensures .1),

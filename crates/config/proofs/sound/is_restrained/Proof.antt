@@ -5,20 +5,20 @@ use borrow.Author.Tests.{not-true, not-false}
 use mathlib.Core.Bool.{true}
 use mathlib.Core.Path.{_≡_, sym, _∙_}
 use Rattle.config.specs.Columns.{configOf}
-use Rattle.config.specs.Sound.{upTo, deviceRestrained}
+use Rattle.config.specs.Sound.{everyTo, deviceRestrained}
 use Rattle.config.proofs.Questions
 use Rattle.config.proofs.sound.is_restrained.Statement.{statement}
 use Rattle.config.proofs.sound.is_restrained.Tie as tie
 
 abbrev Inv-loop : tie.InvT-loop
 Inv-loop counts kind class owner hardcoded count entries last i₀ i =
-    (i ≤ last) × (upTo i (deviceRestrained (configOf counts kind class owner hardcoded count entries)) ≡ true)
+    (i ≤ last) × (everyTo i (deviceRestrained (configOf counts kind class owner hardcoded count entries)) ≡ true)
 
 abbrev μ-loop : tie.MeasureT-loop
 μ-loop counts kind class owner hardcoded count entries last i₀ i = last - i
 
 loop-holds : tie.Need-loop-holds Inv-loop μ-loop
-loop-holds c = (search needs, Questions.up-start _)
+loop-holds c = (search needs, Questions.every-to-start _)
 
 add-i : tie.Need-add-i Inv-loop μ-loop
 add-i c = search needs
@@ -35,7 +35,7 @@ value-passes-requires c κs = search needs
 returns : tie.Need-returns Inv-loop μ-loop
 unfolding deviceRestrained
 returns c =
-    Questions.up-stop _ _ _ (c .before .before .before .before .before .loop-test .taken)
+    Questions.every-to-stop _ _ _ (c .before .before .before .before .before .loop-test .taken)
     (sym (c .before .value-passes .ensures) ∙ not-true (c .before .value-passes .result) (c .if1 .taken))
     ∙ Questions.restrained-same _
 
@@ -46,13 +46,13 @@ loop-again : tie.Need-loop-again Inv-loop μ-loop
 unfolding deviceRestrained
 loop-again c = (
   search needs,
-  Questions.up-go _ _ (c .before .before .before .before .before .before .loop .inv .1)
+  Questions.every-to-go _ _ (c .before .before .before .before .before .before .loop .inv .1)
       (sym (c .before .value-passes .ensures) ∙ not-false (c .before .value-passes .result) (c .if1 .left)),
 )
 
 returns-2 : tie.Need-returns-2 Inv-loop μ-loop
 returns-2 c =
-    Questions.up-end _ _ _ (c .before .loop .inv .1) (c .before .loop .inv .0) (c .loop-test .left)
+    Questions.every-to-end _ _ _ (c .before .loop .inv .1) (c .before .loop .inv .0) (c .loop-test .left)
     ∙ Questions.restrained-same _
 
 pub is-restrained-spec : {M : Type 1} → statement M

@@ -3,7 +3,7 @@
 use native.Mathlib.Omega.{arith}
 use borrow.Author.Needs.{needs}
 use Rattle.model.specs.ConfigFile.{entry, stop, read, setEntry}
-use Rattle.config.proofs.Laws
+use Rattle.config.proofs.Readers
 use Rattle.config.proofs.values.entry_by_fields.Statement.{statement}
 use Rattle.config.proofs.values.entry_by_fields.Tie as tie
 
@@ -22,7 +22,7 @@ refused-requires c κs = search needs
 returns : tie.Need-returns
 unfolding entry stop read setEntry
 returns c =
-    λ count. Laws.on-stop _ _ _ (c .before .before .before .read-field .ensures) (c .before .enum-told .given .1)
+    λ count. Readers.on-stop _ _ _ (c .before .before .before .read-field .ensures) (c .before .enum-told .given .1)
     (rw (c .refused .ensures))
 
 read-field-requires-2 : tie.Need-read-field-requires-2
@@ -40,14 +40,14 @@ refused-requires-2 c κs = search needs
 returns-2 : tie.Need-returns-2
 unfolding entry stop read setEntry
 returns-2 c =
-    λ count. Laws.on-go _ _ _ (c .before .before .before .before .before .before .before .read-field .ensures)
+    λ count. Readers.on-go _ _ _ (c .before .before .before .before .before .before .before .read-field .ensures)
     (c .before .before .before .before .before .f .given .1)
-    (Laws.on-stop _ _ _ (c .before .before .before .read-field2 .ensures) (c .before .enum-told2 .given .1)
+    (Readers.on-stop _ _ _ (c .before .before .before .read-field2 .ensures) (c .before .enum-told2 .given .1)
     (rw (c .refused2 .ensures)))
 
 stored-most-requires : tie.Need-stored-most-requires
 stored-most-requires c κs =
-    let h = Laws.field-most _ _ _ _ (c .before .before .before .before .before .before .before .read-field .ensures)
+    let h = Readers.field-most _ _ _ _ (c .before .before .before .before .before .before .before .read-field .ensures)
     (c .before .before .before .before .before .f .given .1) in
     let w = c .before .before .before .before .before .before .before .before .before .args in omega (arith, h)
 
@@ -66,12 +66,12 @@ refused-requires-3 c κs = search needs
 returns-3 : tie.Need-returns-3
 unfolding entry stop read setEntry
 returns-3 c =
-    λ count. Laws.on-go _ _ _
+    λ count. Readers.on-go _ _ _
     (c .before .before .before .before .before .before .before .before .before .before .before .before .read-field
     .ensures) (c .before .before .before .before .before .before .before .before .before .before .f .given .1)
-    (Laws.on-go _ _ _ (c .before .before .before .before .before .before .before .before .read-field2 .ensures)
+    (Readers.on-go _ _ _ (c .before .before .before .before .before .before .before .before .read-field2 .ensures)
     (c .before .before .before .before .before .before .g .given .1)
-    (Laws.on-stop _ _ _ (cc
+    (Readers.on-stop _ _ _ (cc
     (c .before .before .before .read-field3 .ensures, c .before .before .before .before .stored-most .ensures))
     (c .before .enum-told3 .given .1) (rw (c .refused3 .ensures))))
 
@@ -96,14 +96,14 @@ element-write-entries-3 c = search needs
 returns-4 : tie.Need-returns-4
 unfolding entry stop read setEntry
 returns-4 c =
-    λ count. Laws.on-go _ _ _
+    λ count. Readers.on-go _ _ _
     (c .before .before .before .before .before .before .before .before .before .before .before .before .before
     .read-field .ensures)
     (c .before .before .before .before .before .before .before .before .before .before .before .f .given .1)
-    (Laws.on-go _ _ _
+    (Readers.on-go _ _ _
     (c .before .before .before .before .before .before .before .before .before .read-field2 .ensures)
     (c .before .before .before .before .before .before .before .g .given .1)
-    (Laws.on-go _ _ _ (cc (
+    (Readers.on-go _ _ _ (cc (
       c .before .before .before .before .read-field3 .ensures,
       c .before .before .before .before .before .stored-most .ensures,
     )) (c .before .before .h .given .1)

@@ -8,7 +8,7 @@ use mathlib.Core.Path.{_≡_, sym, _∙_}
 use Rattle.config.specs.Columns.{valuesOf}
 use Rattle.model.specs.Config.{entryPlace}
 use Rattle.model.specs.ConfigFile.{turns, entry}
-use Rattle.config.proofs.Laws
+use Rattle.config.proofs.Readers
 use Rattle.config.proofs.values.read_entries.Statement.{statement}
 use Rattle.config.proofs.values.read_entries.Tie as tie
 
@@ -25,7 +25,7 @@ entry-place-requires : tie.Need-entry-place-requires Inv-loop μ-loop
 entry-place-requires c κs = search needs
 
 loop-holds : tie.Need-loop-holds Inv-loop μ-loop
-loop-holds c = (search needs, c .entry-place .ensures, λ count. Laws.turns-start _ _ 0 _ _)
+loop-holds c = (search needs, c .entry-place .ensures, λ count. Readers.turns-start _ _ 0 _ _)
 
 add-i : tie.Need-add-i Inv-loop μ-loop
 add-i c = search needs
@@ -41,7 +41,7 @@ enum-told c = search needs
 
 returns : tie.Need-returns Inv-loop μ-loop
 returns c =
-    λ count. sym (Laws.turns-stop _ _ _ _ _ (c .before .before .before .before .loop-test .taken)
+    λ count. sym (Readers.turns-stop _ _ _ _ _ (c .before .before .before .before .loop-test .taken)
     (c .before .before .read-entry .ensures count) (c .enum-told .given .1))
     ∙ c .before .before .before .before .before .loop .inv .2 count
 
@@ -56,13 +56,13 @@ loop-again c = (
   search needs,
   omega arith,
   λ count. sym
-      (Laws.turns-go _ _ _ _ _ (c .before .before .before .before .before .loop-test .taken)
+      (Readers.turns-go _ _ _ _ _ (c .before .before .before .before .before .loop-test .taken)
       (c .before .before .before .read-entry .ensures count) (c .before .r .given .1))
       ∙ c .before .before .before .before .before .before .loop .inv .2 count,
 )
 
 returns-2 : tie.Need-returns-2 Inv-loop μ-loop
-returns-2 c = λ count. sym (Laws.turns-end _ _ _ _ _ (c .loop-test .left)) ∙ c .before .loop .inv .2 count
+returns-2 c = λ count. sym (Readers.turns-end _ _ _ _ _ (c .loop-test .left)) ∙ c .before .loop .inv .2 count
 
 pub read-entries-spec : {M : Type 1} → statement M
 read-entries-spec =

@@ -1,7 +1,7 @@
 -- `config::values::read_value` meets its contract: the count goes on to its entries or is refused. Assumes nothing.
 use borrow.Author.Needs.{needs}
 use Rattle.model.specs.ConfigFile.{value, stop, setCount}
-use Rattle.config.proofs.Laws
+use Rattle.config.proofs.Readers
 use Rattle.config.proofs.values.read_value.Statement.{statement}
 use Rattle.config.proofs.values.read_value.Tie as tie
 
@@ -20,7 +20,7 @@ refused-requires c κs = search needs
 returns : tie.Need-returns
 unfolding value stop setCount
 returns c =
-    Laws.on-stop _ _ _ (c .before .before .before .quick-field .ensures) (c .before .enum-told .given .1)
+    Readers.on-stop _ _ _ (c .before .before .before .quick-field .ensures) (c .before .enum-told .given .1)
     (rw (c .refused .ensures))
 
 element-write-count : tie.Need-element-write-count
@@ -28,14 +28,14 @@ element-write-count c = search needs
 
 read-entries-requires : tie.Need-read-entries-requires
 read-entries-requires c κs =
-    let h = Laws.field-most _ _ _ _ (c .before .before .before .before .quick-field .ensures)
+    let h = Readers.field-most _ _ _ _ (c .before .before .before .before .quick-field .ensures)
     (c .before .before .f .given .1) in let a = c .before .before .before .before .before .before in
     ((a .pre .0, h), a .pre .1)
 
 returns-2 : tie.Need-returns-2
 unfolding value stop setCount
 returns-2 c =
-    Laws.on-go _ _ _ (c .before .before .before .before .before .quick-field .ensures)
+    Readers.on-go _ _ _ (c .before .before .before .before .before .quick-field .ensures)
     (c .before .before .before .f .given .1)
     (c .read-entries .ensures _)
 

@@ -4,7 +4,7 @@ use mathlib.Core.Path.{_≡_}
 use mathlib.Core.Bool.{true}
 use borrow.Author.Needs.{needs}
 use Rattle.model.specs.State.{view}
-use Rattle.state.specs.Change.{configOf}
+use Rattle.state.specs.Change.{objectsLent}
 use Rattle.state.specs.Formed.{objectsRight}
 use Rattle.state.proofs.Records.{
   blank,
@@ -20,7 +20,7 @@ use Rattle.state.proofs.formed.objects_formed.Tie as tie
 
 abbrev Inv-loop : tie.InvT-loop
 Inv-loop area room objects values kind class owner hardcoded drivers devices present i₀ i = (i ≤ present)
-    × (objectsRight (configOf objects values kind class owner hardcoded) (view room area) i ≡ true)
+    × (objectsRight (objectsLent objects values kind class owner hardcoded) (view room area) i ≡ true)
 
 abbrev μ-loop : tie.MeasureT-loop
 μ-loop area room objects values kind class owner hardcoded drivers devices present i₀ i = present - i

@@ -5,14 +5,14 @@ use mathlib.Core.List.{[]}
 use lib.ListN.{length}
 use borrow.Author.Needs.{needs}
 use Rattle.model.specs.State.{view}
-use Rattle.state.specs.Change.{configOf}
+use Rattle.state.specs.Change.{objectsLent}
 use Rattle.state.proofs.Turns.{zero-length, freshTo, fresh-none, fresh-on, fresh-end}
 use Rattle.state.proofs.fresh.store_values.Statement.{statement}
 use Rattle.state.proofs.fresh.store_values.Tie as tie
 
 abbrev Inv-loop : tie.InvT-loop
 Inv-loop area₀ room objects kind owner hardcoded i₀ area i = (i ≤ room) × (length area ≡ length area₀)
-    × (view room area ≡ freshTo (configOf objects 0 kind [] owner hardcoded) room i)
+    × (view room area ≡ freshTo (objectsLent objects 0 kind [] owner hardcoded) room i)
 
 abbrev μ-loop : tie.MeasureT-loop
 μ-loop area₀ room objects kind owner hardcoded i₀ area i = room - i
