@@ -20,6 +20,7 @@ use model::HARDCODED_KIND;
 use model::OBJECT_SLOTS;
 use model::TRANSFER_KIND;
 use model::VALUE_SLOTS;
+use model::wide;
 
 // The device whose hardcoded descriptor o is, if it is active.
 fn owner_of<'a>(
@@ -37,7 +38,7 @@ fn owner_of<'a>(
     ensures { λ x.
         ⌜ OwnWord (now (kind .entry)) (now (class .entry)) (now (owner .entry)) (view room (now (area .entry))) o x ⌝ }
 {
-    let c = rules::wide(owner[o]);
+    let c = wide(owner[o]);
     if c < 1 {
         return 0;
     }
@@ -45,7 +46,7 @@ fn owner_of<'a>(
         return 0;
     }
     words::pick(
-        rules::is_owned(kind, class, owner, area, room, c, o),
+        rules::is_hardcoded_of(kind, class, owner, area, room, c, o),
         words::power(c - 1),
     )
 }
@@ -60,7 +61,7 @@ fn value_of(counts: Counts, kind: &[u8; OBJECT_SLOTS], area: &[u8], room: usize,
     if area::object_in(area, room, o) == 0 {
         return 0;
     }
-    let w = rules::wide(area::held_by(area, room, o));
+    let w = wide(area::held_by(area, room, o));
     words::power(w + FIRST_VALUE)
 }
 

@@ -1,6 +1,5 @@
 // Which devices may name an object: a word for each object.
 use crate::area;
-use crate::rules;
 use crate::spread::DEVICE_WORDS;
 use crate::words;
 ghost use mathlib.Core.Path.{_≡_};
@@ -15,6 +14,7 @@ ghost use Rattle.closure.specs.Search.{Parts, FineWord, Fines};
 use model::Counts;
 use model::HARDCODED_KIND;
 use model::OBJECT_SLOTS;
+use model::wide;
 
 // How many numbers a byte, a partition, can be.
 const BYTES: usize = 256;
@@ -32,7 +32,7 @@ fn parts(area: &[u8], room: usize, devices: u8) -> [u64; BYTES]
     let mut t = [0u64; BYTES];
     let mut c = 1;
     while c <= last {
-        let p = rules::wide(area::device_in(area, room, c));
+        let p = wide(area::device_in(area, room, c));
         t[p] = t[p] | words::power(c - 1);
         c += 1;
     }
@@ -54,7 +54,7 @@ fn inside(
     requires { ⌜ Parts (view room (now area)) (devices + 1) (now parts) ⌝ }
     ensures { λ r. ⌜ FineWord (crossing (now (kind .entry)) (view room (now (area .entry)))) devices o r ⌝ }
 {
-    let p = rules::wide(area::object_in(area, room, o));
+    let p = wide(area::object_in(area, room, o));
     words::pick(kind[o] != HARDCODED_KIND, parts[p])
 }
 

@@ -13,6 +13,7 @@ ghost use Rattle.closure.specs.Offers.{readDigit, Put, Noted, Offered};
 use model::ENTRY_SLOTS;
 use model::OBJECT_SLOTS;
 use model::TRANSFER_KIND;
+use model::wide;
 
 // The digit of a read, above those of all values.
 const READ_DIGIT: usize = 63;
@@ -38,8 +39,8 @@ fn note_write(entries: &[u8; ENTRY_SLOTS], table: &mut [u64; OBJECT_SLOTS], at: 
     if !rules::is_writing(entries[at + 1]) {
         return;
     }
-    let w = rules::wide(entries[at + 2]);
-    put(table, rules::wide(entries[at]), w);
+    let w = wide(entries[at + 2]);
+    put(table, wide(entries[at]), w);
 }
 
 // If it reads, the digit of a read.
@@ -53,7 +54,7 @@ fn note_read(entries: &[u8; ENTRY_SLOTS], table: &mut [u64; OBJECT_SLOTS], at: u
     if !rules::is_reading(entries[at + 1]) {
         return;
     }
-    put(table, rules::wide(entries[at]), READ_DIGIT);
+    put(table, wide(entries[at]), READ_DIGIT);
 }
 
 // What the entry at a place offers is put down.

@@ -13,6 +13,7 @@ use model::MOST_ENTRIES;
 use model::OBJECT_SLOTS;
 use model::READ_MODE;
 use model::WRITE_MODE;
+use model::wide;
 
 // How many entries a value has room for.
 pub const ENTRY_ROOM: usize = MOST_ENTRIES as usize;
@@ -33,16 +34,8 @@ pub fn is_writing(mode: u8) -> bool
     mode != READ_MODE
 }
 
-// A byte as a place of a table.
-pub fn wide(x: u8) -> usize
-    ensures { λ r. ⌜ r ≡ x ⌝ }
-    ensures { λ r. ⌜ r < 256 ⌝ }
-{
-    x as usize
-}
-
 // Device c is active, and object o is its hardcoded descriptor.
-pub fn is_owned<'a>(
+pub fn is_hardcoded_of<'a>(
     kind: &'a [u8; OBJECT_SLOTS],
     class: &'a [u8; OBJECT_SLOTS],
     owner: &'a [u8; OBJECT_SLOTS],

@@ -1,6 +1,5 @@
 // The search for an entry that names an object which its device may not name: nested loops over devices, pairs and
 // entries, left at the first such entry.
-use crate::rules;
 use crate::rules::ENTRY_ROOM;
 use crate::spread::FIRST_VALUE;
 use crate::words;
@@ -13,6 +12,7 @@ use model::ENTRY_BYTES;
 use model::ENTRY_SLOTS;
 use model::OBJECT_SLOTS;
 use model::VALUE_SLOTS;
+use model::wide;
 
 // An entry: its device, its descriptor, its value, and its number in the value, from 1; or nothing.
 pub enum Finding {
@@ -40,7 +40,7 @@ fn listed(
     if !words::has(x, v + FIRST_VALUE) {
         return 0;
     }
-    rules::wide(count[v])
+    wide(count[v])
 }
 
 // An entry of value v, read by a device of the word d, that names an object which the device may not name; `fine` has

@@ -24,6 +24,7 @@ use model::HARDCODED_KIND;
 use model::OBJECT_SLOTS;
 use model::TRANSFER_KIND;
 use model::VALUE_SLOTS;
+use model::wide;
 
 // The value that descriptor o holds if it is active, as a word.
 fn active_word(counts: Counts, kind: &[u8; OBJECT_SLOTS], area: &[u8], room: usize, o: usize) -> u64
@@ -35,7 +36,7 @@ fn active_word(counts: Counts, kind: &[u8; OBJECT_SLOTS], area: &[u8], room: usi
     if area::object_in(area, room, o) == 0 {
         return 0;
     }
-    let w = rules::wide(area::held_by(area, room, o));
+    let w = wide(area::held_by(area, room, o));
     words::power(w)
 }
 
@@ -75,7 +76,7 @@ fn owned_word<'a>(
     if kind[o] != HARDCODED_KIND {
         return 0;
     }
-    if !rules::is_owned(kind, class, owner, area, room, device, o) {
+    if !rules::is_hardcoded_of(kind, class, owner, area, room, device, o) {
         return 0;
     }
     held_word(counts, kind, area, room, o)

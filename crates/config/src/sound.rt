@@ -19,14 +19,8 @@ use model::OBJECT_SLOTS;
 use model::READ_MODE;
 use model::TRANSFER_KIND;
 use model::VALUE_SLOTS;
+use model::byte_at;
 use model::entry_place;
-
-// What a column has at place i, and 0 past its end.
-fn look(a: &[u8], i: usize) -> u8
-    ensures { λ r. ⌜ r ≡ getD (now (a .entry)) i 0 ⌝ }
-{
-    if i < a.len() { a[i] } else { 0 }
-}
 
 // An object of kind 4 is a device's, and is counted to that device; other objects pass.
 fn note(owned: &mut [u8; DEVICE_SLOTS], kind: u8, class: u8, owner: u8) -> bool
@@ -133,8 +127,8 @@ fn entry_passes<'a>(
         ⌜ r ≡ entryPasses (now (kind .entry)) (now (class .entry)) (now (owner .entry)) n v
         (entryAt (now (entries .entry)) at) ⌝ }
 {
-    let o = look(entries, at);
-    let mode = look(entries, at + 1);
+    let o = byte_at(entries, at);
+    let mode = byte_at(entries, at + 1);
     may_name(kind, class, owner, n, v, o, mode)
 }
 
@@ -187,7 +181,7 @@ fn value_passes<'a>(
         return true;
     }
     let i = w as usize;
-    let k = look(count, i);
+    let k = byte_at(count, i);
     entries_pass(kind, class, owner, entries, n, v, entry_place(w, 1), k)
 }
 

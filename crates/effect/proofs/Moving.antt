@@ -8,8 +8,8 @@ use native.Mathlib.Decide.{ℕ-discrete}
 use native.Mathlib.Omega.{arith}
 use lib.ListN.{length, getD, set}
 use lib.Seq.{set-getD}
-use lib.Dec.{eqb}
-use borrow.Author.Tests.{le-leb, lt-leb, eq-eqb, ne-eqb, not-true, not-false}
+use lib.Dec.{eqb, leb}
+use borrow.Author.Tests.{eq-eqb, ne-eqb, not-true, not-false}
 use Rattle.model.specs.Base.{put, number, below}
 use Rattle.model.specs.Config.{owns}
 use Rattle.model.specs.State.{State, cleared, areaLength, view, layout}
@@ -46,24 +46,11 @@ module _ (kind : List ℕ) (n : ℕ) (clears : Bool) where
   unfolding clearable
   clear-some k h e = rw (not-false clears h, e)
 
-module _ (objects : ℕ) (class owner : List ℕ) (a k n : ℕ) where
-  pub owned-none : n ≡ 0 → false ≡ ownedBy objects class owner a k n
-  unfolding ownedBy objectsLent
-  owned-none e = rw e
-
-  pub owned-absent : objects < n → false ≡ ownedBy objects class owner a k n
-  unfolding ownedBy objectsLent
-  owned-absent h = rw (lt-leb n objects h, le-leb 1 n (omega arith))
-
-  pub owned-class : (c : ℕ) → (n ≡ 0 → ⊥) → n ≤ objects → c ≡ getD class n 0 → (c ≡ a → ⊥)
-      → false ≡ ownedBy objects class owner a k n
-  unfolding ownedBy objectsLent
-  owned-class c z h e x = rw (le-leb 1 n (omega arith), le-leb n objects h, ← e, ne-eqb c a x)
-
-  pub owned-owner : (c o : ℕ) → (n ≡ 0 → ⊥) → n ≤ objects → c ≡ getD class n 0 → c ≡ a → o ≡ getD owner n 0
-      → eqb o k ≡ ownedBy objects class owner a k n
-  unfolding ownedBy objectsLent
-  owned-owner c o z h e x f = rw (le-leb 1 n (omega arith), le-leb n objects h, ← e, eq-eqb c a x, f)
+-- the number, the class and the owner of an object
+pub owned-by : (objects : ℕ) (class owner : List ℕ) (a k n : ℕ) {x y : ℕ} → x ≡ getD class n 0 → y ≡ getD owner n 0
+    → (leb 1 n && leb n objects && eqb x a && eqb y k) ≡ ownedBy objects class owner a k n
+unfolding ownedBy objectsLent
+owned-by objects class owner a k n p q = rw (p, q)
 
 -- one turn
 module _ (room : ℕ) (s : List ℕ) (n p : ℕ) where

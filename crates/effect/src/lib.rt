@@ -1,5 +1,6 @@
 // What an accepted operation does to the state area and to the answer area.
 mod moves;
+pub mod owners;
 mod transfers;
 
 ghost use mathlib.Core.Path.{_≡_};

@@ -9,15 +9,16 @@ ghost use Rattle.model.specs.declared.Actor.{Actor};
 ghost use Rattle.model.specs.declared.Actor.the-variants.{Driver, Device, External};
 ghost use Rattle.model.specs.declared.Config.{Config};
 ghost use Rattle.effect.specs.Moves.{movedAt, clearable, ownedBy, listed, moved};
+use crate::owners::is_owned;
 use model::Config;
 use model::DEVICE_CLASS;
 use model::DRIVER_CLASS;
 use model::HARDCODED_KIND;
 use model::Operation;
+use model::byte_at;
 use operation::columns::number_of;
 use state::DESTROYED;
 use state::EXISTING;
-use state::bytes::byte_at;
 use state::change::clear;
 use state::change::set_device;
 use state::change::set_driver;
@@ -46,23 +47,6 @@ fn is_clearable(clears: bool, kind: &[u8], n: usize) -> bool
         return false;
     }
     byte_at(kind, n) != HARDCODED_KIND
-}
-
-// Is object n one of driver k (class 1) or of device k (class 2)?
-fn is_owned<'a>(objects: usize, class: &'a [u8], owner: &'a [u8], a: u8, k: usize, n: usize) -> bool
-    ensures { λ r. ⌜ r ≡ ownedBy objects (now (class .entry)) (now (owner .entry)) a k n ⌝ }
-{
-    if n == 0 {
-        return false;
-    }
-    if objects < n {
-        return false;
-    }
-    if byte_at(class, n) != a {
-        return false;
-    }
-    let o = byte_at(owner, n);
-    (o as usize) == k
 }
 
 // All objects of driver or device k go to partition p.

@@ -9,7 +9,7 @@ use native.Mathlib.Decide.{ℕ-discrete, decLe}
 use lib.ListN.{length, getD, set, replicate}
 use lib.Seq.{getD-set-same, getD-set-other}
 use lib.Dec.{leb, eqb}
-use borrow.Author.Tests.{eq-eqb, ne-eqb, le-leb, lt-leb}
+use borrow.Author.Tests.{eq-eqb, ne-eqb, lt-leb}
 use Rattle.model.specs.Base.{below}
 use Rattle.model.specs.Config.{mostObjects}
 use Rattle.model.specs.Effect.{concerned}
@@ -38,11 +38,6 @@ one-at false = refl
 unfoldable pub Upto : List ℕ → (ℕ → Bool) → ℕ → Type 0
 Upto t p i = ((o : ℕ) → o ≤ i → eqb (getD t o 0) 1 ≡ p o) × ((o : ℕ) → i < o → getD t o 0 ≡ 0)
 
--- the class and the owner of an object
-pub owned-by : (class owner : List ℕ) (a k n : ℕ) {x y : ℕ} → x ≡ getD class n 0 → y ≡ getD owner n 0
-    → (eqb x a && eqb y k) ≡ (eqb (getD class n 0) a && eqb (getD owner n 0) k)
-owned-by class owner a k n p q = rw (p, q)
-
 module _ (n : ℕ) (class owner : List ℕ) (a k : ℕ) where
   abbrev Owned : ℕ → Bool
   Owned = ownedBy n class owner a k
@@ -55,14 +50,8 @@ module _ (n : ℕ) (class owner : List ℕ) (a k : ℕ) where
       none zero h = refl
       none (suc o) h = absurd (omega arith)
 
-  here : (i : ℕ) → i < n → {h : Bool} → h ≡ (eqb (getD class (i + 1) 0) a && eqb (getD owner (i + 1) 0) k)
-      → h ≡ Owned (i + 1)
-  unfolding ownedBy objectsLent
-  here i l e =
-      e ∙ rw (le-leb 1 (i + 1) (omega arith), le-leb (i + 1) n (omega arith))
-
   pub owned-turn : (t : List ℕ) (i : ℕ) {h : Bool} {x : ℕ} → Upto t Owned i → i < n → n ≤ mostObjects
-      → length t ≡ slots → h ≡ (eqb (getD class (i + 1) 0) a && eqb (getD owner (i + 1) 0) k) → x ≡ cond h 1 0
+      → length t ≡ slots → h ≡ Owned (i + 1) → x ≡ cond h 1 0
       → Upto (set t (i + 1) x) Owned (i + 1)
   unfolding Upto
   owned-turn t i {h} {x} u l m long e v = (
@@ -72,7 +61,7 @@ module _ (n : ℕ) (class owner : List ℕ) (a k : ℕ) where
     where
       at : (o : ℕ) → o ≤ i + 1 → Dec (o ≡ i + 1) → eqb (getD (set t (i + 1) x) o 0) 1 ≡ Owned o
       at o b (yes z) =
-          rw (z, getD-set-same t (i + 1) x 0 (omega arith), v) (one-at h ∙ here i l e)
+          rw (z, getD-set-same t (i + 1) x 0 (omega arith), v) (one-at h ∙ e)
       at o b (no z) = rw (getD-set-other t (i + 1) o x 0 z) (u .0 o (omega arith))
 
   past : (o : ℕ) → n < o → Owned o ≡ false

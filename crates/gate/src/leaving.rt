@@ -1,6 +1,6 @@
 // Question 20: no other device has an entry in the closure for an object that a deactivation concerns.
 ghost use mathlib.Core.Path.{_≡_};
-ghost use mathlib.Core.Bool.{_&&_, cond};
+ghost use mathlib.Core.Bool.{cond};
 ghost use Prim.Native.Nat.{_≤_};
 ghost use lib.ListN.{getD};
 ghost use lib.Dec.{eqb};
@@ -15,13 +15,13 @@ ghost use Rattle.gate.specs.Ready.{Searchable, Ready, Asked};
 ghost use Rattle.gate.specs.Asking.{leaves, Marks, InTable};
 use crate::next::is_nothing;
 use closure::answer::naming;
+use effect::owners::is_owned;
 use model::Actor;
 use model::Config;
 use model::Family;
 use model::OBJECT_SLOTS;
 use model::Operation;
 use operation::columns::number_of;
-use state::bytes::byte_at;
 
 // A deactivation.
 pub fn is_leaving(f: Family) -> bool
@@ -44,16 +44,6 @@ fn table_mark(hit: bool) -> u8
     if hit { 1 } else { 0 }
 }
 
-// The owner of object n is driver k (class 1) or device k (class 2).
-fn has_owner<'a>(class: &'a [u8], owner: &'a [u8], a: u8, k: usize, n: usize) -> bool
-    ensures { λ r.
-        ⌜ r ≡ (eqb (getD (now (class .entry)) n 0) a && eqb (getD (now (owner .entry)) n 0) k) ⌝ }
-{
-    let c = byte_at(class, n);
-    let o = byte_at(owner, n) as usize;
-    (c == a) & (o == k)
-}
-
 // A 1 at each object of driver k (class 1) or device k (class 2).
 fn mark_owned<'a>(
     objects: usize,
@@ -69,7 +59,7 @@ fn mark_owned<'a>(
     let mut i = 0;
     while i < objects {
         i += 1;
-        table[i] = table_mark(has_owner(class, owner, a, k, i));
+        table[i] = table_mark(is_owned(objects, class, owner, a, k, i));
     }
     table
 }

@@ -1,6 +1,8 @@
 // The types that the definitions of document 01 and the code share. What they mean stands in specs/.
 
 ghost use mathlib.Core.Path.{_≡_};
+ghost use Prim.Native.Nat.{_<_};
+ghost use lib.ListN.{getD};
 ghost use Rattle.model.specs.Config.{entryPlace};
 
 // The limits of a configuration (document 01, 'Line file').
@@ -173,4 +175,18 @@ pub fn entry_place(v: u8, j: u8) -> usize
     ensures { λ r. ⌜ r ≡ entryPlace v j ⌝ }
 {
     ENTRY_BYTES * ((MOST_ENTRIES as usize) * (v as usize) + (j as usize))
+}
+
+// A byte as a place of a table or a part of a number.
+pub fn wide(b: u8) -> usize
+    ensures { λ r. ⌜ (r ≡ b) × (r < 256) ⌝ }
+{
+    b as usize
+}
+
+// What a column has at place i, and 0 past its end.
+pub fn byte_at(column: &[u8], i: usize) -> u8
+    ensures { λ r. ⌜ r ≡ getD (now (column .entry)) i 0 ⌝ }
+{
+    if i < column.len() { column[i] } else { 0 }
 }

@@ -3,7 +3,7 @@ ghost use mathlib.Core.Path.{_≡_};
 ghost use lib.ListN.{getD};
 
 // A number of an item, as wide as a place.
-fn wide(n: u32) -> usize
+fn wide_number(n: u32) -> usize
     ensures { λ r. ⌜ r ≡ n ⌝ }
 {
     n as usize
@@ -13,5 +13,9 @@ fn wide(n: u32) -> usize
 pub fn number_of(column: &[u32], i: usize) -> usize
     ensures { λ r. ⌜ r ≡ getD (now (column .entry)) i 0 ⌝ }
 {
-    if i < column.len() { wide(column[i]) } else { 0 }
+    if i < column.len() {
+        wide_number(column[i])
+    } else {
+        0
+    }
 }

@@ -12,9 +12,9 @@ use model::Family;
 use model::HARDCODED_KIND;
 use model::Operation;
 use model::TRANSFER_KIND;
+use model::byte_at;
 use operation::columns::number_of;
 use state::MOST_PARTITION;
-use state::bytes::byte_at;
 
 // The driver or device s exists, where the code names one.
 fn actor_named(counts: Counts, a: Actor, s: usize) -> bool

@@ -86,10 +86,6 @@ window-take zero l h = refl
 window-take (suc k) [] h = absurd (omega arith)
 window-take (suc k) (x ∷ l) h = ap (λ (t : List ℕ). x ∷ t) (window-take k l (omega arith))
 
--- a column past its end
-pub byte-out : (l : List ℕ) (i : ℕ) → length l ≤ i → 0 ≡ getD l i 0
-byte-out l i h = sym (List·getD-eq-default l 0 h)
-
 -- lookups
 module _ (room : ℕ) (s : List ℕ) where
   pub status-in : (p : ℕ) → p < partitionCount → getD s p 0 ≡ statusOf (view room s) p

@@ -1,18 +1,11 @@
 // Single bytes, and sixteen of them by value, read out of a slice and stored into one.
 ghost use mathlib.Core.Path.{_≡_};
 ghost use Prim.Native.Nat.{_+_, _≤_, _<_};
-ghost use lib.ListN.{length, getD};
+ghost use lib.ListN.{length};
 ghost use Rattle.model.specs.State.{contentBytes, valueBytes};
 ghost use Rattle.state.specs.Bytes.{Greater, Highest, four, wordAt};
 ghost use Rattle.state.specs.Splice.{splice, part};
 use model::CONTENT_BYTES;
-
-// What a column has at place i, and 0 past its end.
-pub fn byte_at(column: &[u8], i: usize) -> u8
-    ensures { λ r. ⌜ r ≡ getD (now (column .entry)) i 0 ⌝ }
-{
-    if i < column.len() { column[i] } else { 0 }
-}
 
 // The greater of two bytes.
 fn greater(a: u8, b: u8) -> u8
@@ -37,7 +30,7 @@ pub fn highest(s: &[u8], from: usize, to: usize) -> u8
 }
 
 // A byte as a number of eight bytes.
-pub fn wide(b: u8) -> u64
+pub fn wide_word(b: u8) -> u64
     ensures { λ r. ⌜ (r ≡ b) × (r < 256) ⌝ }
 {
     b as u64
@@ -47,7 +40,7 @@ pub fn wide(b: u8) -> u64
 fn join(a: u8, b: u8, c: u8, d: u8) -> u64
     ensures { λ r. ⌜ (r ≡ four a b c d) × (r < 4294967296) ⌝ }
 {
-    wide(a) + 256 * wide(b) + 65536 * wide(c) + 16777216 * wide(d)
+    wide_word(a) + 256 * wide_word(b) + 65536 * wide_word(c) + 16777216 * wide_word(d)
 }
 
 // The eight bytes from place `at` on as one number, the first the lowest: one load of the machine.

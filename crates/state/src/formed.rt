@@ -21,9 +21,8 @@ use crate::MOST_STATUS;
 use crate::PARTITIONS;
 use crate::RECORD_BYTES;
 use crate::RECORDS_FROM;
-use crate::bytes::byte_at;
 use crate::bytes::highest;
-use crate::bytes::wide;
+use crate::bytes::wide_word;
 use crate::bytes::word;
 use crate::look::status;
 use model::CONTENT_BYTES;
@@ -35,6 +34,7 @@ use model::DRIVER_CLASS;
 use model::HARDCODED_KIND;
 use model::OBJECT_SLOTS;
 use model::TRANSFER_KIND;
+use model::byte_at;
 
 // Contents are two words.
 const WORD_BYTES: usize = CONTENT_BYTES / 2;
@@ -108,7 +108,7 @@ fn is_value(area: &[u8], at: usize, v: u8) -> bool
     requires { ⌜ at + contentBytes ≤ length (now area) ⌝ }
     ensures { λ r. ⌜ r ≡ isValue (part (now (area .entry)) at contentBytes) v ⌝ }
 {
-    if word(area, at) != wide(v) {
+    if word(area, at) != wide_word(v) {
         return false;
     }
     word(area, at + WORD_BYTES) == 0
@@ -119,7 +119,7 @@ fn is_value_to(area: &[u8], at: usize, most: u8) -> bool
     requires { ⌜ at + contentBytes ≤ length (now area) ⌝ }
     ensures { λ r. ⌜ r ≡ isValueTo (part (now (area .entry)) at contentBytes) most ⌝ }
 {
-    if word(area, at) > wide(most) {
+    if word(area, at) > wide_word(most) {
         return false;
     }
     word(area, at + WORD_BYTES) == 0

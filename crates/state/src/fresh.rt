@@ -5,11 +5,11 @@ ghost use lib.ListN.{length, replicate};
 ghost use Rattle.model.specs.State.{areaLength, view, layout, fresh};
 ghost use Rattle.state.specs.Change.{objectsLent};
 ghost use Rattle.state.specs.Fresh.{valued};
-use crate::bytes::byte_at;
 use crate::bytes::value_bytes;
 use crate::change::store;
 use model::Config;
 use model::HARDCODED_KIND;
+use model::byte_at;
 
 // Every byte becomes 0.
 fn zero(area: &mut [u8])

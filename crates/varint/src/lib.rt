@@ -9,12 +9,7 @@ use model::Fault;
 use model::MOST_BYTES;
 use model::MOST_NUMBER;
 use model::Num;
-
-fn wide(b: u8) -> usize
-    ensures { λ r. ⌜ (r ≡ b) × (r < 256) ⌝ }
-{
-    b as usize
-}
+use model::wide;
 
 // How many bytes of a long run are tested at once.
 const RUN_BYTES: usize = 32;

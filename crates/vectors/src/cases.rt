@@ -5,6 +5,7 @@ ghost use lib.ListN.{length};
 use model::MOST_ITEMS;
 use model::MOST_OBJECTS;
 use model::Operation;
+use state::bytes::wide_word;
 
 // What a case calls: the load check; making a fresh state in an area of the right length, of a byte less and of a byte
 // more; question 9; question 10.
@@ -43,10 +44,6 @@ pub(crate) fn two(low: u8, high: u8) -> usize
     (low as usize) + 256 * (high as usize)
 }
 
-fn wide(b: u8) -> u64 {
-    b as u64
-}
-
 fn wider(n: u32) -> u64 {
     n as u64
 }
@@ -63,7 +60,7 @@ fn sum_bytes(sum: u64, s: &[u8]) -> u64
     let mut t = sum % 65521;
     let mut i: usize = 0;
     while i < s.len() {
-        t = mix(t, wide(s[i]));
+        t = mix(t, wide_word(s[i]));
         i += 1;
     }
     t

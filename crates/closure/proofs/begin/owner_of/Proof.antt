@@ -30,8 +30,8 @@ returns-2 c =
     (view (a .args .room) (now (a .args .area))) (a .args .o) (a .pre .0) (a .pre .1 .1)
     (omega (arith, c .before .before .before .wide .ensures .0))
 
-is-owned-requires : tie.Need-is-owned-requires
-is-owned-requires c κs = search needs
+is-hardcoded-of-requires : tie.Need-is-hardcoded-of-requires
+is-hardcoded-of-requires c κs = search needs
 
 power-requires : tie.Need-power-requires
 power-requires c κs = search needs
@@ -47,7 +47,7 @@ returns-3 c =
     (view (a .args .room) (now (a .args .area))) (a .args .o)
     (c .before .before .before .before .before .before .wide .result)
     (c .before .before .before .before .before .before .wide .ensures .0) (omega arith) (omega arith)
-    (c .before .before .is-owned .result) (c .before .before .is-owned .ensures))
+    (c .before .before .is-hardcoded-of .result) (c .before .before .is-hardcoded-of .ensures))
 
 pub owner-of-spec : {M : Type 1} → statement M
 owner-of-spec =
@@ -58,7 +58,7 @@ owner-of-spec =
     returns
     cast-if2
     returns-2
-    is-owned-requires
+    is-hardcoded-of-requires
     power-requires
     pick-requires
     returns-3)

@@ -25,15 +25,15 @@ returns c =
     (now (a .args .class)) (now (a .args .owner)) [] []) (view (a .args .room) (now (a .args .area)))
     (a .args .device) (a .args .o) e))
 
-is-owned-requires : tie.Need-is-owned-requires
-is-owned-requires c κs = search needs
+is-hardcoded-of-requires : tie.Need-is-hardcoded-of-requires
+is-hardcoded-of-requires c κs = search needs
 
 returns-2 : tie.Need-returns-2
 returns-2 c =
     let a = c .before .before .before .before .before in
     owned-none (now (a .args .kind)) (now (a .args .class)) (now (a .args .owner))
     (view (a .args .room) (now (a .args .area))) (a .args .device) (a .args .o)
-    (λ e. false≢true (sym (not-true _ (c .if2 .taken)) ∙ (c .before .is-owned .ensures ∙ e)))
+    (λ e. false≢true (sym (not-true _ (c .if2 .taken)) ∙ (c .before .is-hardcoded-of .ensures ∙ e)))
 
 held-word-requires : tie.Need-held-word-requires
 held-word-requires c κs = search needs
@@ -43,7 +43,7 @@ returns-3 c =
     let a = c .before .before .before .before .before .before in
     owned-held (now (a .args .kind)) (now (a .args .class)) (now (a .args .owner))
     (view (a .args .room) (now (a .args .area))) (a .args .device) (a .args .o) (c .held-word .result)
-    (sym (c .before .before .is-owned .ensures) ∙ not-false _ (c .before .if2 .left)) (c .held-word .ensures)
+    (sym (c .before .before .is-hardcoded-of .ensures) ∙ not-false _ (c .before .if2 .left)) (c .held-word .ensures)
 
 pub owned-word-spec : {M : Type 1} → statement M
 owned-word-spec =
@@ -51,7 +51,7 @@ owned-word-spec =
     (tie.spec
     element-copy-out-if1
     returns
-    is-owned-requires
+    is-hardcoded-of-requires
     returns-2
     held-word-requires
     returns-3)

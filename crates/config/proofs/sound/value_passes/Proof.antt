@@ -8,8 +8,8 @@ use Rattle.config.proofs.sound.value_passes.Tie as tie
 returns : tie.Need-returns
 returns c = Questions.passes-none _ _ _ _ (c .if1 .taken)
 
-look-requires : tie.Need-look-requires
-look-requires c κs = search needs
+byte-at-requires : tie.Need-byte-at-requires
+byte-at-requires c κs = search needs
 
 entry-place-requires : tie.Need-entry-place-requires
 entry-place-requires c κs = search needs
@@ -19,9 +19,9 @@ entries-pass-requires c κs = omega (arith, c .entry-place .ensures)
 
 returns-2 : tie.Need-returns-2
 returns-2 c =
-    Questions.passes-some _ _ _ _ _ _ _ (c .before .before .before .if1 .left) (c .before .before .look .ensures)
+    Questions.passes-some _ _ _ _ _ _ _ (c .before .before .before .if1 .left) (c .before .before .byte-at .ensures)
     (c .before .entry-place .ensures) (c .entries-pass .ensures)
 
 pub value-passes-spec : {M : Type 1} → statement M
 value-passes-spec =
-    tie.close (tie.spec returns look-requires entry-place-requires entries-pass-requires returns-2)
+    tie.close (tie.spec returns byte-at-requires entry-place-requires entries-pass-requires returns-2)

@@ -24,8 +24,8 @@ loop-holds c = (search needs, refl, Marking.owned-start _ _ _ _ _)
 add-i : tie.Need-add-i Inv-loop μ-loop
 add-i c = search needs
 
-has-owner-requires : tie.Need-has-owner-requires Inv-loop μ-loop
-has-owner-requires c κs = search needs
+is-owned-requires : tie.Need-is-owned-requires Inv-loop μ-loop
+is-owned-requires c κs = search needs
 
 table-mark-requires : tie.Need-table-mark-requires Inv-loop μ-loop
 table-mark-requires c κs = search needs
@@ -42,7 +42,7 @@ loop-again c =
       search needs,
       search length-turn,
       Marking.owned-turn _ _ _ _ _ _ _ (c₁ .loop .inv .2) (c .before .before .loop-test .taken) (c₂ .pre)
-          (c₁ .loop .inv .1) (c .before .has-owner .ensures) (c .table-mark .ensures),
+          (c₁ .loop .inv .1) (c .before .is-owned .ensures) (c .table-mark .ensures),
     )
 
 returns : tie.Need-returns Inv-loop μ-loop
@@ -56,7 +56,7 @@ mark-owned-spec =
     μ-loop
     loop-holds
     add-i
-    has-owner-requires
+    is-owned-requires
     table-mark-requires
     array-write-table
     loop-less

@@ -5,14 +5,14 @@ use borrow.Author.Needs.{needs}
 use Rattle.operation.proofs.columns.number_of.Statement.{statement}
 use Rattle.operation.proofs.columns.number_of.Tie as tie
 
-mul-wide : tie.Need-mul-wide
-mul-wide c = search needs
+mul-wide-number : tie.Need-mul-wide-number
+mul-wide-number c = search needs
 
-shared-slice-read-wide : tie.Need-shared-slice-read-wide
-shared-slice-read-wide c = search needs
+shared-slice-read-wide-number : tie.Need-shared-slice-read-wide-number
+shared-slice-read-wide-number c = search needs
 
-wide-requires : tie.Need-wide-requires
-wide-requires c κs = search needs
+wide-number-requires : tie.Need-wide-number-requires
+wide-number-requires c κs = search needs
 
 returns : tie.Need-returns
 returns c = search needs
@@ -22,4 +22,4 @@ returns-2 c = sym (List·getD-eq-default (c .before .before .args .column .now) 
 
 pub number-of-spec : {M : Type 1} → statement M
 number-of-spec =
-    tie.close (tie.spec mul-wide shared-slice-read-wide wide-requires returns returns-2)
+    tie.close (tie.spec mul-wide-number shared-slice-read-wide-number wide-number-requires returns returns-2)

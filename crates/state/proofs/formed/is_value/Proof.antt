@@ -7,8 +7,8 @@ use Rattle.state.proofs.formed.is_value.Tie as tie
 word-requires : tie.Need-word-requires
 word-requires c κs = search needs
 
-wide-requires : tie.Need-wide-requires
-wide-requires c κs = search needs
+wide-word-requires : tie.Need-wide-word-requires
+wide-word-requires c κs = search needs
 
 returns : tie.Need-returns
 returns c = search value-other
@@ -24,4 +24,4 @@ returns-2 c = search value-rest
 
 pub is-value-spec : {M : Type 1} → statement M
 is-value-spec =
-    tie.close (tie.spec word-requires wide-requires returns add-word word-requires-2 returns-2)
+    tie.close (tie.spec word-requires wide-word-requires returns add-word word-requires-2 returns-2)

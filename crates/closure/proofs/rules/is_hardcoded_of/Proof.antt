@@ -1,7 +1,7 @@
--- `closure::rules::is_owned` meets its contract: the bytes are those that `owned` names. Assumes nothing.
+-- `closure::rules::is_hardcoded_of` meets its contract: the bytes are those that `owned` names. Assumes nothing.
 use borrow.Author.Needs.{needs}
-use Rattle.closure.proofs.rules.is_owned.Statement.{statement}
-use Rattle.closure.proofs.rules.is_owned.Tie as tie
+use Rattle.closure.proofs.rules.is_hardcoded_of.Statement.{statement}
+use Rattle.closure.proofs.rules.is_hardcoded_of.Tie as tie
 
 device-in-requires : tie.Need-device-in-requires
 device-in-requires c κs = search needs
@@ -22,8 +22,8 @@ returns : tie.Need-returns
 unfolding Rattle.closure.specs.Rules.owned
 returns c = rw (c .before .before .before .before .device-in .ensures, c .wide .ensures .0)
 
-pub is-owned-spec : {M : Type 1} → statement M
-is-owned-spec =
+pub is-hardcoded-of-spec : {M : Type 1} → statement M
+is-hardcoded-of-spec =
     tie.close
     (tie.spec
     device-in-requires
