@@ -24,6 +24,9 @@ use Rattle.model.specs.ConfigFile.{
   onReading,
   turns,
   countsAt,
+  objectsAt,
+  devicesAt,
+  valuesAt,
   paired,
   restrained,
   accepted,
@@ -47,7 +50,7 @@ use Rattle.model.specs.declared.Head.the-variants.{Counted, Stopped}
 use Rattle.model.specs.declared.Counts.{Counts}
 use Rattle.model.specs.declared.Config.{Config}
 use Rattle.model.specs.declared.Loaded.{Loaded}
-use Rattle.config.specs.Columns.{progress, Within}
+use Rattle.config.specs.Columns.{progress, objectsOf, devicesOf, valuesOf, configOf, Within}
 use Rattle.config.specs.Sound.{firstNo, restNo}
 
 and-false : (b : Bool) → b && false ≡ false
@@ -178,6 +181,32 @@ module _ (s : List ℕ) {h : Head} (e : h ≡ countsAt s) where
   pub load-go : {n : Counts} {next : ℕ} {l : Loaded} → h ≡ Counted n next → l ≡ groupsFrom s n next → l ≡ load s
   unfolding load afterCounts
   load-go z p = rw (p, ← e, z)
+
+-- the counts and the three groups, up to the first that is refused: all that was read goes to what follows. Said once
+-- over names, since in a reader's proof each of them stands for a long term
+module _ (s : List ℕ) {head : Head} (e : head ≡ countsAt s) {n : Counts} {at : ℕ} (c : head ≡ Counted n at) where
+  module _ {p : Reading} {kind class owner : List ℕ}
+      (x : progress p (objectsOf kind class owner) ≡ objectsAt s n at) where
+    pub objects-stop : {i : ℕ} {l : Loaded} → p ≡ Refused i → l ≡ refused (readingQuestion p) → l ≡ load s
+    unfolding groupsFrom
+    objects-stop z w = load-go s e c (group-stop _ _ x z w)
+
+    module _ {a : ℕ} (o : p ≡ At a) {q : Reading} {hardcoded : List ℕ}
+        (y : progress q (devicesOf hardcoded) ≡ devicesAt s n a) where
+      pub devices-stop : {i : ℕ} {l : Loaded} → q ≡ Refused i → l ≡ refused (readingQuestion q) → l ≡ load s
+      unfolding groupsFrom
+      devices-stop z w = load-go s e c (group-go _ _ x o (group-stop _ _ y z w))
+
+      module _ {b : ℕ} (d : q ≡ At b) {r : Reading} {count entries : List ℕ}
+          (z : progress r (valuesOf count entries) ≡ valuesAt s n kind b) where
+        pub values-stop : {i : ℕ} {l : Loaded} → r ≡ Refused i → l ≡ refused (readingQuestion r) → l ≡ load s
+        unfolding groupsFrom
+        values-stop v w = load-go s e c (group-go _ _ x o (group-go _ _ y d (group-stop _ _ z v w)))
+
+        pub all-go : {end : ℕ} {l : Loaded} → r ≡ At end
+            → l ≡ judged s end (configOf n kind class owner hardcoded count entries) → l ≡ load s
+        unfolding groupsFrom
+        all-go v w = load-go s e c (group-go _ _ x o (group-go _ _ y d (group-go _ _ z v w)))
 
 -- questions 4, 5 and 6, by the first that is answered with no
 module _ (s : List ℕ) (at : ℕ) (config : Config) where

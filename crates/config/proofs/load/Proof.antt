@@ -2,7 +2,7 @@
 -- then the first no among questions 4 to 6 decides. Assumes nothing.
 use mathlib.Core.Path.{refl, _∙_}
 use borrow.Author.Needs.{needs}
-use Rattle.model.specs.ConfigFile.{groupsFrom, objectsAt, devicesAt, valuesAt}
+use Rattle.model.specs.ConfigFile.{objectsAt, devicesAt, valuesAt}
 use Rattle.config.proofs.Readers
 use Rattle.config.proofs.Questions
 use Rattle.config.proofs.load.Statement.{statement}
@@ -46,13 +46,13 @@ refuse-requires-2 : tie.Need-refuse-requires-2
 refuse-requires-2 c κs = search needs
 
 returns-2 : tie.Need-returns-2
-unfolding groupsFrom objectsAt devicesAt valuesAt
+unfolding objectsAt
 returns-2 c =
-    Readers.load-go _ (c .before .before .before .before .before .before .before .before .before .before .before
-    .read-counts .ensures)
-    (c .before .before .before .before .before .before .before .before .before .head .given .1)
-    (Readers.group-stop _ _ (c .before .before .before .before .read-objects .ensures)
-    (c .before .before .enum-told2 .given .1) (rw (← c .before .reading-question .ensures) (c .refuse2 .ensures)))
+    let o = c .before .before .before .before in
+    let n = o .before .before .before .before .before .before .before in
+    Readers.objects-stop _ (n .read-counts .ensures) (o .before .before .before .before .before .head .given .1)
+    (o .read-objects .ensures) (c .before .before .enum-told2 .given .1)
+    (rw (← c .before .reading-question .ensures) (c .refuse2 .ensures))
 
 read-devices-requires : tie.Need-read-devices-requires
 read-devices-requires c κs =
@@ -73,18 +73,15 @@ refuse-requires-3 : tie.Need-refuse-requires-3
 refuse-requires-3 c κs = search needs
 
 returns-3 : tie.Need-returns-3
-unfolding groupsFrom objectsAt devicesAt valuesAt
+unfolding objectsAt devicesAt
 returns-3 c =
-    Readers.load-go _ (c .before .before .before .before .before .before .before .before .before .before .before
-    .before .before .before .before .before .read-counts .ensures)
-    (c .before .before .before .before .before .before .before .before .before .before .before .before .before
-    .before .head .given .1)
-    (Readers.group-go _ _ (c .before .before .before .before .before .before .before .before .before .read-objects
-    .ensures)
-    (c .before .before .before .before .before .before .before .p .given .1)
-    (Readers.group-stop _ _ (c .before .before .before .before .read-devices .ensures)
-    (c .before .before .enum-told3 .given .1) (rw (← c .before .reading-question2 .ensures) (c .refuse3
-    .ensures))))
+    let d = c .before .before .before .before in
+    let o = d .before .before .before .before .before in
+    let n = o .before .before .before .before .before .before .before in
+    Readers.devices-stop _ (n .read-counts .ensures) (o .before .before .before .before .before .head .given .1)
+    (o .read-objects .ensures) (d .before .before .before .p .given .1)
+    (d .read-devices .ensures) (c .before .before .enum-told3 .given .1)
+    (rw (← c .before .reading-question2 .ensures) (c .refuse3 .ensures))
 
 read-values-requires : tie.Need-read-values-requires
 read-values-requires c κs =
@@ -106,40 +103,34 @@ refuse-requires-4 : tie.Need-refuse-requires-4
 refuse-requires-4 c κs = search needs
 
 returns-4 : tie.Need-returns-4
-unfolding groupsFrom objectsAt devicesAt valuesAt
+unfolding objectsAt devicesAt valuesAt
 returns-4 c =
-    Readers.load-go _ (c .before .before .before .before .before .before .before .before .before .before .before
-    .before .before .before .before .before .before .before .before .before .before .before .before .read-counts
-    .ensures)
-    (c .before .before .before .before .before .before .before .before .before .before .before .before .before
-    .before .before .before .before .before .before .before .before .head .given .1)
-    (Readers.group-go _ _ (c .before .before .before .before .before .before .before .before .before .before .before
-    .before .before .before .before .before .read-objects .ensures)
-    (c .before .before .before .before .before .before .before .before .before .before .before .before .before
-    .before .p .given .1)
-    (Readers.group-go _ _ (c .before .before .before .before .before .before .before .before .before .before .before
-    .read-devices .ensures)
-    (c .before .before .before .before .before .before .before .before .before .q .given .1)
-    (Readers.group-stop _ _ (c .before .before .before .before .read-values .ensures)
-    (c .before .before .enum-told4 .given .1) (rw (← c .before .reading-question3 .ensures) (c .refuse4
-    .ensures)))))
+    let v = c .before .before .before .before in
+    let d = v .before .before .before .before .before .before .before in
+    let o = d .before .before .before .before .before in
+    let n = o .before .before .before .before .before .before .before in
+    Readers.values-stop _ (n .read-counts .ensures) (o .before .before .before .before .before .head .given .1)
+    (o .read-objects .ensures) (d .before .before .before .p .given .1)
+    (d .read-devices .ensures) (v .before .before .before .before .before .q .given .1)
+    (v .read-values .ensures) (c .before .before .enum-told4 .given .1)
+    (rw (← c .before .reading-question3 .ensures) (c .refuse4 .ensures))
 
 refuse-requires-5 : tie.Need-refuse-requires-5
 refuse-requires-5 c κs = search needs
 
 returns-5 : tie.Need-returns-5
-unfolding groupsFrom objectsAt devicesAt valuesAt
+unfolding objectsAt devicesAt valuesAt
 returns-5 c =
     let i = c .before in
     let v = i .before .before .before .before in
     let d = v .before .before .before .before .before .before .before in
     let o = d .before .before .before .before .before in
     let n = o .before .before .before .before .before .before .before in
-    Readers.load-go _ (n .read-counts .ensures) (o .before .before .before .before .before .head .given .1)
-    (Readers.group-go _ _ (o .read-objects .ensures) (d .before .before .before .p .given .1)
-    (Readers.group-go _ _ (d .read-devices .ensures) (v .before .before .before .before .before .q .given .1)
-    (Readers.group-go _ _ (v .read-values .ensures) (i .before .before .r .given .1)
-    (Readers.left-over _ _ _ (i .if1 .taken) (c .refuse5 .ensures)))))
+    Readers.all-go _ (n .read-counts .ensures) (o .before .before .before .before .before .head .given .1)
+    (o .read-objects .ensures) (d .before .before .before .p .given .1)
+    (d .read-devices .ensures) (v .before .before .before .before .before .q .given .1)
+    (v .read-values .ensures) (i .before .before .r .given .1)
+    (Readers.left-over _ _ _ (i .if1 .taken) (c .refuse5 .ensures))
 
 is-paired-requires : tie.Need-is-paired-requires
 is-paired-requires c κs =
@@ -165,7 +156,7 @@ refuse-requires-6 : tie.Need-refuse-requires-6
 refuse-requires-6 c κs = search needs
 
 returns-6 : tie.Need-returns-6
-unfolding groupsFrom objectsAt devicesAt valuesAt
+unfolding objectsAt devicesAt valuesAt
 returns-6 c =
     let f = c .before .before in
     let j = f .before in
@@ -175,20 +166,20 @@ returns-6 c =
     let d = v .before .before .before .before .before .before .before in
     let o = d .before .before .before .before .before in
     let n = o .before .before .before .before .before .before .before in
-    Readers.load-go _ (n .read-counts .ensures) (o .before .before .before .before .before .head .given .1)
-    (Readers.group-go _ _ (o .read-objects .ensures) (d .before .before .before .p .given .1)
-    (Readers.group-go _ _ (d .read-devices .ensures) (v .before .before .before .before .before .q .given .1)
-    (Readers.group-go _ _ (v .read-values .ensures) (i .before .before .r .given .1)
+    Readers.all-go _ (n .read-counts .ensures) (o .before .before .before .before .before .head .given .1)
+    (o .read-objects .ensures) (d .before .before .before .p .given .1)
+    (d .read-devices .ensures) (v .before .before .before .before .before .q .given .1)
+    (v .read-values .ensures) (i .before .before .r .given .1)
     (Readers.not-sound _ _ _
     (Readers.all-read _ _ _ (i .if1 .left)
     (a .is-paired .ensures ∙ Questions.paired-same _) (j .is-restrained .ensures) (f .first-no .ensures))
-    (c .before .if2 .taken) (c .refuse6 .ensures)))))
+    (c .before .if2 .taken) (c .refuse6 .ensures))
 
 accept-requires : tie.Need-accept-requires
 accept-requires c κs = search needs
 
 returns-7 : tie.Need-returns-7
-unfolding groupsFrom objectsAt devicesAt valuesAt
+unfolding objectsAt devicesAt valuesAt
 returns-7 c =
     let f = c .before .before in
     let j = f .before in
@@ -198,14 +189,14 @@ returns-7 c =
     let d = v .before .before .before .before .before .before .before in
     let o = d .before .before .before .before .before in
     let n = o .before .before .before .before .before .before .before in
-    Readers.load-go _ (n .read-counts .ensures) (o .before .before .before .before .before .head .given .1)
-    (Readers.group-go _ _ (o .read-objects .ensures) (d .before .before .before .p .given .1)
-    (Readers.group-go _ _ (d .read-devices .ensures) (v .before .before .before .before .before .q .given .1)
-    (Readers.group-go _ _ (v .read-values .ensures) (i .before .before .r .given .1)
+    Readers.all-go _ (n .read-counts .ensures) (o .before .before .before .before .before .head .given .1)
+    (o .read-objects .ensures) (d .before .before .before .p .given .1)
+    (d .read-devices .ensures) (v .before .before .before .before .before .q .given .1)
+    (v .read-values .ensures) (i .before .before .r .given .1)
     (Readers.accepts _ _ _
     (Readers.all-read _ _ _ (i .if1 .left)
     (a .is-paired .ensures ∙ Questions.paired-same _) (j .is-restrained .ensures) (f .first-no .ensures))
-    (c .before .if2 .left) (c .accept .ensures)))))
+    (c .before .if2 .left) (c .accept .ensures))
 
 pub load-spec : {M : Type 1} → statement M
 load-spec =
