@@ -8,7 +8,8 @@ import vectors
 from measure import TIMES, build, expect, one_call, run, write_case
 
 # A function's part in a call, by the names that callgrind gives; what the compiler put into its caller counts there.
-PARTS = [("load the file", r"(config|varint)::"), ("the search of the closure", r"closure::"),
+PARTS = [("load the file", r"(config|sound|varint)::"),
+         ("the search of the closure", r"(closure|described|scene)::"),
          ("the other questions, 9 above all", r"(gate_operate|state::|questions::)"),
          ("carry out, and take apart", r"(effect|operation)::"),
          ("copy and clear (the host's C library)", r"__mem")]

@@ -14,10 +14,10 @@ use Rattle.model.specs.declared.Config.{Config}
 use Rattle.model.proofs.Lists.{no-both, not-true}
 use Rattle.model.proofs.Entries.{entry-place}
 use Rattle.model.proofs.ClosureExact.{survey-exact}
-use Rattle.closure.specs.Digits.{bit}
-use Rattle.closure.specs.Rules.{opens, stores, crossing, naming}
-use Rattle.closure.specs.Scene.{Scene, entryOf, countOf, In, ValuesOk}
-use Rattle.closure.specs.Words.{Has, ReaderIn, PairIn, Sound, Closed}
+use Rattle.scene.specs.Digits.{bit, Has}
+use Rattle.scene.specs.Rules.{opens, stores, crossing, naming}
+use Rattle.scene.specs.Scene.{Scene, entryOf, countOf, In, ValuesOk}
+use Rattle.closure.specs.Words.{ReaderIn, PairIn, Sound, Closed}
 use Rattle.closure.specs.Search.{
   Fines,
   IsStrange,
@@ -34,7 +34,7 @@ use Rattle.closure.specs.Search.{
 }
 use Rattle.closure.specs.declared.search.Finding.{Finding}
 use Rattle.closure.specs.declared.search.Finding.the-variants.{Found, Nothing}
-use Rattle.closure.proofs.Ranges.{opens-of, stores-of, entry-there}
+use Rattle.scene.proofs.Ranges.{opens-of, stores-of, entry-there}
 
 -- words to which no rule adds have all that the rules give
 module _ (m : Scene) (k : List ℕ) (closed : Closed m k) where

@@ -14,14 +14,14 @@ use lib.Seq.{getD-set-same, getD-set-other}
 use Rattle.model.specs.Config.{mostDevices}
 use Rattle.model.specs.State.{State, deviceIn, objectIn}
 use Rattle.model.proofs.Lists.{and-l, and-r, or-true, or-left, or-right, both-true, flip-true}
-use Rattle.closure.specs.Digits.{bit, Next}
-use Rattle.closure.specs.Rules.{crossing, naming}
-use Rattle.closure.specs.Scene.{In}
-use Rattle.closure.specs.Words.{Has, PairIn}
+use Rattle.scene.specs.Digits.{bit, Next, Has}
+use Rattle.scene.specs.Rules.{crossing, naming}
+use Rattle.scene.specs.Scene.{In}
+use Rattle.closure.specs.Words.{PairIn}
 use Rattle.closure.specs.Search.{Parts, FineWord, Listed}
-use Rattle.closure.proofs.Digits as Digits
-use Rattle.closure.proofs.Digits.{bit-zero, pow-bit, pow-only, pick-bit, full-bit, or-out}
-use Rattle.closure.proofs.Giving.{set-word, wider-set, no-digit}
+use Rattle.scene.proofs.Digits as Digits
+use Rattle.scene.proofs.Digits.{bit-zero, pow-bit, pow-only, pick-bit, full-bit, or-out}
+use Rattle.scene.proofs.Widening.{set-word, wider-set, no-digit}
 
 -- the devices of each partition: one device more
 pub parts-more : (b : State) (t : List ℕ) (p c x : ℕ) → p < length t → 1 ≤ c → x ≡ 2 ^ (c - 1) → p ≡ deviceIn b c

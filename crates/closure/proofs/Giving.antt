@@ -2,42 +2,19 @@
 use Prim.Native.Nat.{ℕ, zero, suc, _+_, _%_, _^_, _≤_, _<_}
 use native.Mathlib.Nat.{not-suc-le-zero}
 use native.Mathlib.Omega.{arith}
-use native.Mathlib.Decide.{ℕ-discrete}
 use mathlib.Core.Path.{_≡_, refl, sym, subst, _∙_}
-use mathlib.Core.Logic.{_⊎_, inl, inr, ⊎-elim, by-cases}
+use mathlib.Core.Logic.{_⊎_, inl, inr, ⊎-elim}
 use mathlib.Core.Bool.{Bool, true, false, false≢true}
 use mathlib.Core.List.{List, [], _∷_}
 use lib.Bits.{bitOr}
-use lib.ListN.{getD, length, set, length-set, replicate}
-use lib.Seq.{getD-set-same, getD-set-other}
+use lib.ListN.{getD, length, set, length-set}
+use lib.Seq.{getD-set-same}
 use Rattle.model.specs.Config.{mostDevices, blank}
-use Rattle.closure.specs.Digits.{bit, Cleared}
-use Rattle.closure.specs.Scene.{Scene}
-use Rattle.closure.specs.Words.{
-  Has,
-  ReaderIn,
-  PairIn,
-  Wider,
-  Low,
-  Covers,
-  TouchedIn,
-  Paired,
-  slack,
-  Gave,
-  Grew,
-  Added,
-}
-use Rattle.closure.proofs.Digits.{
-  or-left,
-  or-right,
-  or-out,
-  or-within,
-  bit-zero,
-  pow-bit,
-  pow-only,
-  mod-bit,
-  bit-mod,
-}
+use Rattle.scene.specs.Digits.{bit, Cleared, Has, Wider}
+use Rattle.scene.specs.Scene.{Scene}
+use Rattle.closure.specs.Words.{ReaderIn, PairIn, Low, Covers, TouchedIn, Paired, slack, Gave, Grew, Added}
+use Rattle.scene.proofs.Digits.{or-left, or-right, or-out, or-within, bit-zero, pow-bit, pow-only, mod-bit, bit-mod}
+use Rattle.scene.proofs.Widening.{set-word, wider-set, wider-none, wider-then}
 
 -- a scene, for what is the same in all
 pub some-scene : Scene
@@ -47,34 +24,6 @@ some-scene =
       storing = false;
       state = record { status = []; driver = []; device = []; object = []; content = [] };
     }
-
--- what holds of each word holds after one is set, if it holds of the new one
-pub set-word : (P : ℕ → ℕ → Type 0) (b : List ℕ) (i x : ℕ) → i < length b → P i x → ((j : ℕ) → P j (getD b j 0))
-    → (j : ℕ) → P j (getD (set b i x) j 0)
-set-word P b i x h p f j =
-    by-cases (ℕ-discrete j i)
-    (λ e. subst (λ (j : ℕ). P j (getD (set b i x) j 0)) (sym e)
-    (subst (λ (y : ℕ). P i y) (sym (getD-set-same b i x 0 h)) p))
-    (λ e. subst (λ (y : ℕ). P j y) (sym (getD-set-other b i j x 0 e)) (f j))
-
-pub wider-set : (b : List ℕ) (i x : ℕ) → i < length b → Wider b (set b i (bitOr (getD b i 0) x))
-wider-set b i x h =
-    record {
-      kept = set-word (λ j y. (n : ℕ) → Has b j n → bit y n ≡ 1) b i (bitOr (getD b i 0) x) h
-          (λ n e. or-left (getD b i 0) x n e) (λ j n e. e);
-    }
-
-pub wider-none : {b : List ℕ} → Wider b b
-wider-none = record { kept = λ j n e. e }
-
-pub wider-then : {b b′ b″ : List ℕ} → Wider b b′ → Wider b′ b″ → Wider b b″
-wider-then f g = record { kept = λ j n e. g .kept j n (f .kept j n e) }
-
--- no digit of a word of zeros is set
-pub no-digit : (k j n : ℕ) → Has (replicate k 0) j n → ⊥
-no-digit zero j n e = bit-zero n e
-no-digit (suc k) zero n e = bit-zero n e
-no-digit (suc k) (suc j) n e = no-digit k j n e
 
 pub slack-set : (t : List ℕ) (j y : ℕ) → j < length t → getD t j 0 < y → y ≤ 2 ^ 64 → slack (set t j y) < slack t
 unfolding slack

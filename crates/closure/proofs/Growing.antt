@@ -13,12 +13,10 @@ use borrow.Author.Tests.{eq-eqb, ne-eqb}
 use Rattle.model.specs.Config.{mostDevices, Entry, entryPlace, entryAt}
 use Rattle.model.specs.Closure.{stored, next}
 use Rattle.model.proofs.Lists.{and-l, and-r, both-true}
-use Rattle.closure.specs.Digits.{bit, Without}
-use Rattle.closure.specs.Rules.{holdsValue, readsMode, writesMode, opens, stores}
-use Rattle.closure.specs.Scene.{Scene, entryOf, countOf, In}
+use Rattle.scene.specs.Digits.{bit, Without, Has, Wider}
+use Rattle.scene.specs.Rules.{holdsValue, readsMode, writesMode, opens, stores}
+use Rattle.scene.specs.Scene.{Scene, entryOf, countOf, In}
 use Rattle.closure.specs.Words.{
-  Has,
-  Wider,
   Low,
   Added,
   Followed,
@@ -31,16 +29,10 @@ use Rattle.closure.specs.Words.{
   EntriesIn,
 }
 use Rattle.closure.specs.Search.{NoStrange}
-use Rattle.closure.proofs.Digits.{or-out, bit-zero, pow-bit, pow-only, mod-bit}
-use Rattle.closure.proofs.Ranges.{
-  opens-reads,
-  opens-descriptor,
-  stores-on,
-  stores-writes,
-  stores-kind,
-  entry-there,
-}
-use Rattle.closure.proofs.Giving.{reader-wider, set-word}
+use Rattle.scene.proofs.Digits.{or-out, bit-zero, pow-bit, pow-only, mod-bit}
+use Rattle.scene.proofs.Ranges.{opens-reads, opens-descriptor, stores-on, stores-writes, stores-kind, entry-there}
+use Rattle.closure.proofs.Giving.{reader-wider}
+use Rattle.scene.proofs.Widening.{set-word}
 
 -- an entry is followed
 module _ (kind : List ℕ) (e : Entry) (r : ℕ) where

@@ -1,11 +1,6 @@
-pub mod Digits
-pub mod Ranges
-pub mod Accepting
 pub mod Giving
 pub mod Growing
 pub mod Turning
 pub mod Starting
 pub mod Finding
 pub mod Answering
-pub mod Describing
-pub mod Offering

@@ -3,26 +3,21 @@ use Prim.Native.Nat.{ℕ, zero, suc, _+_, _-_, _%_, _^_, _≤_, _<_}
 use native.Mathlib.Omega.{arith}
 use native.Mathlib.Decide.{ℕ-discrete}
 use mathlib.Core.Path.{_≡_, refl, sym, ap, subst, _∙_}
-use mathlib.Core.Logic.{_⊎_, inl, inr, ⊎-elim, by-cases}
-use mathlib.Core.Bool.{Bool, true, false, not, cond, false≢true}
+use mathlib.Core.Logic.{_⊎_, inl, ⊎-elim, by-cases}
+use mathlib.Core.Bool.{Bool, true, false, cond, false≢true}
 use mathlib.Core.List.{List, []}
 use lib.Bits.{bitOr}
-use lib.Dec.{eqb}
-use borrow.Author.Tests.{eq-eqb, ne-eqb}
-use Rattle.model.proofs.Lists.{and-l, and-r, both-true}
 use lib.ListN.{getD, length, set, replicate}
 use lib.Seq.{getD-set-same, getD-set-other}
 use Rattle.model.specs.Config.{mostDevices}
-use Rattle.model.specs.State.{State, objectIn, held}
+use Rattle.model.specs.State.{State, held}
 use Rattle.model.specs.Closure.{start, own}
 use Rattle.model.specs.declared.Counts.{Counts}
 use Rattle.model.specs.declared.Config.{Config}
-use Rattle.closure.specs.Digits.{bit}
-use Rattle.closure.specs.Rules.{holdsValue, starts, owned}
-use Rattle.closure.specs.Scene.{Scene, searchConfig, In, OwnersOk}
+use Rattle.scene.specs.Digits.{bit, Has, Wider}
+use Rattle.scene.specs.Rules.{starts, owned}
+use Rattle.scene.specs.Scene.{Scene, searchConfig, In, OwnersOk}
 use Rattle.closure.specs.Words.{
-  Has,
-  Wider,
   Covers,
   Covered,
   By,
@@ -32,17 +27,14 @@ use Rattle.closure.specs.Words.{
   Sound,
   BegunAt,
   Seeded,
-  Owners,
   OwnWord,
   ValueWord,
   FirstWord,
 }
 use Rattle.closure.specs.Search.{Going}
-use Rattle.closure.proofs.Digits.{or-left, or-right, bit-zero, pow-bit, pow-only, mod-bit, bit-mod, some-bit}
-use Rattle.closure.proofs.Ranges.{
-  hardcoded-object,
-  hardcoded-class,
-  hardcoded-owner,
+use Rattle.scene.proofs.Digits.{or-left, or-right, bit-zero, pow-bit, pow-only, mod-bit, bit-mod, some-bit}
+use Rattle.scene.proofs.Ranges.{
+  owners-of,
   live-test,
   owned-active,
   owned-kind,
@@ -51,15 +43,9 @@ use Rattle.closure.proofs.Ranges.{
   owned-hardcoded,
   owned-of,
 }
-use Rattle.closure.proofs.Giving.{some-scene, set-word, no-digit, paired-wider}
+use Rattle.closure.proofs.Giving.{some-scene, paired-wider}
+use Rattle.scene.proofs.Widening.{set-word, no-digit}
 use Rattle.closure.proofs.Growing.{right-or}
-
--- the device that a hardcoded descriptor belongs to is one of the configuration
-pub owners-of : (m : Scene) → OwnersOk (m .config .counts) (m .config .objects .class) (m .config .objects .owner)
-    → Owners m
-owners-of m ok c o h =
-    subst (λ (c : ℕ). In (m .config .counts .devices) c) (hardcoded-owner (m .config) c o h)
-    (ok .device-known o (hardcoded-object (m .config) c o h) (hardcoded-class (m .config) c o h))
 
 -- the word of the active device whose hardcoded descriptor o is
 module _ (n : Counts) (kind class owner : List ℕ) (b : State) (o : ℕ) where
@@ -128,29 +114,6 @@ value-above {x = x} f =
     let (k, e) = some-bit mostDevices (x % 2 ^ mostDevices) z (omega arith) in
     let (low, h) = mod-bit x mostDevices k e in
     absurd (omega (arith, low, f .right k h .1)))
-
-pub starts-of : (kind : List ℕ) (b : State) (o p : ℕ) → p ≡ objectIn b o → holdsValue (getD kind o 0) ≡ true
-    → (p ≡ 0 → ⊥) → starts kind b o ≡ true
-unfolding starts
-starts-of kind b o p is h ne = both-true h (ap not (ne-eqb (objectIn b o) 0 (λ e. ne (is ∙ e))))
-
-pub starts-not : (kind : List ℕ) (b : State) (o p : ℕ) → p ≡ objectIn b o → p ≡ 0 → starts kind b o ≡ true → ⊥
-unfolding starts
-starts-not kind b o p is e h =
-    false≢true (sym (ap not (eq-eqb (objectIn b o) 0 (sym is ∙ e)))
-    ∙ and-r (holdsValue (getD kind o 0)) (not (eqb (objectIn b o) 0)) h)
-
--- an object that holds no value is nobody's
-pub starts-never : (kind : List ℕ) (b : State) (o : ℕ) → (getD kind o 0 ≡ 1 → ⊥) → (getD kind o 0 ≡ 4 → ⊥)
-    → starts kind b o ≡ true → ⊥
-unfolding starts
-starts-never kind b o p q h =
-    false≢true (sym (rw (ne-eqb (getD kind o 0) 1 p, ne-eqb (getD kind o 0) 4 q) refl)
-    ∙ and-l (holdsValue (getD kind o 0)) (not (eqb (objectIn b o) 0)) h)
-
-pub holds-kind : (k : ℕ) → (k ≡ 1) ⊎ (k ≡ 4) → holdsValue k ≡ true
-holds-kind k (inl e) = rw e refl
-holds-kind k (inr e) = rw e refl
 
 -- the word of descriptor o before any step
 module _ (m : Scene) (o x : ℕ)

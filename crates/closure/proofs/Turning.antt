@@ -12,13 +12,11 @@ use lib.ListN.{getD, length, set}
 use lib.Seq.{getD-set-same}
 use Rattle.model.specs.Config.{mostDevices, entryPlace, hardcodedTo}
 use Rattle.model.specs.Closure.{active}
-use Rattle.closure.specs.Digits.{bit, Cleared, Without}
-use Rattle.closure.specs.Scene.{Scene, entryOf, countOf, In}
+use Rattle.scene.specs.Digits.{bit, Cleared, Without, Has, Wider}
+use Rattle.scene.specs.Scene.{Scene, entryOf, countOf, In}
 use Rattle.closure.specs.Words.{
-  Has,
   ReaderIn,
   PairIn,
-  Wider,
   slack,
   Grew,
   RightReader,
@@ -29,9 +27,10 @@ use Rattle.closure.specs.Words.{
   BegunAt,
 }
 use Rattle.closure.specs.Search.{NoStrange, StrangeIn, Going, Ended, Suspected}
-use Rattle.closure.proofs.Digits.{or-right, or-out, or-within, or-grows, bit-zero, mod-bit, bit-mod, some-bit}
-use Rattle.closure.proofs.Ranges.{live-object, hardcoded-object}
-use Rattle.closure.proofs.Giving.{paired-wider, set-word, slack-set, wider-set}
+use Rattle.scene.proofs.Digits.{or-right, or-out, or-within, or-grows, bit-zero, mod-bit, bit-mod, some-bit}
+use Rattle.scene.proofs.Ranges.{live-object, hardcoded-object}
+use Rattle.closure.proofs.Giving.{paired-wider, slack-set}
+use Rattle.scene.proofs.Widening.{set-word, wider-set}
 use Rattle.closure.proofs.Growing.{entry-wider, low-mod}
 
 -- a value that has something to do

@@ -1,7 +1,2 @@
-pub mod Digits
-pub mod Rules
-pub mod Scene
 pub mod Words
 pub mod Search
-pub mod Today
-pub mod Offers

@@ -11,20 +11,9 @@ use Rattle.model.specs.State.{State, deviceIn}
 use Rattle.model.specs.Closure.{Reads, crosses}
 use Rattle.model.specs.declared.Counts.{Counts}
 use Rattle.model.specs.declared.Config.{Config}
-use Rattle.closure.specs.Digits.{bit}
-use Rattle.closure.specs.Scene.{Scene, entryOf, countOf, In}
-use Rattle.closure.specs.Words.{
-  Has,
-  ReaderIn,
-  PairIn,
-  Covered,
-  Paired,
-  By,
-  Sound,
-  Applied,
-  Begun,
-  Closed,
-}
+use Rattle.scene.specs.Digits.{bit, Has}
+use Rattle.scene.specs.Scene.{Scene, entryOf, countOf, In}
+use Rattle.closure.specs.Words.{ReaderIn, PairIn, Covered, Paired, By, Sound, Applied, Begun, Closed}
 use Rattle.closure.specs.declared.search.Finding.{Finding}
 use Rattle.closure.specs.declared.search.Finding.the-variants.{Found, Nothing}
 

@@ -12,13 +12,9 @@ use lib.ListN.{getD, length}
 use Rattle.model.specs.Config.{mostDevices, hardcodedTo, Entry}
 use Rattle.model.specs.State.{State, held}
 use Rattle.model.specs.Closure.{active, live, Collected, Reads}
-use Rattle.closure.specs.Digits.{bit}
-use Rattle.closure.specs.Rules.{opens, stores, starts, owned}
-use Rattle.closure.specs.Scene.{Scene, entryOf, countOf, In}
-
--- digit k of word j is set
-abbrev pub Has : List ℕ → ℕ → ℕ → Type 0
-Has b j k = bit (getD b j 0) k ≡ 1
+use Rattle.scene.specs.Digits.{bit, Has, Wider}
+use Rattle.scene.specs.Rules.{opens, stores, starts, owned}
+use Rattle.scene.specs.Scene.{Scene, entryOf, countOf, In, Reading, Owners}
 
 -- device c reads descriptor o
 abbrev pub ReaderIn : List ℕ → ℕ → ℕ → Type 0
@@ -27,10 +23,6 @@ ReaderIn k c o = (n : ℕ) × (c ≡ n + 1) × (n < mostDevices) × Has k o n
 -- the pair of descriptor o with value v is collected
 abbrev pub PairIn : List ℕ → ℕ → ℕ → Type 0
 PairIn k o v = Has k o (v + mostDevices)
-
--- every digit of b is in b′
-pub record Wider (b b′ : List ℕ) : Type 0 where
-  pub kept : (j n : ℕ) → Has b j n → Has b′ j n
 
 -- a word of devices
 abbrev pub Low : ℕ → Type 0
@@ -126,14 +118,9 @@ module _ (m : Scene) where
   abbrev pub Sound : List ℕ → Type 0
   Sound k = (o : ℕ) → RightWord o (getD k o 0)
 
-  -- device c reads a pair with value v
-  pub record Reading (c v : ℕ) : Type 0 where
-    pub object : ℕ
-    pub read : Reads (m .config) (m .storing) (m .state) c object v
-
   -- each device of r reads a pair with value v
   abbrev pub Each : ℕ → ℕ → Type 0
-  Each r v = (n : ℕ) → bit r n ≡ 1 → (n < mostDevices) × In (m .config .counts .devices) (n + 1) × Reading (n + 1) v
+  Each r v = (n : ℕ) → bit r n ≡ 1 → (n < mostDevices) × In (m .config .counts .devices) (n + 1) × Reading m (n + 1) v
 
   -- what entry j of value v, in a pair that device c reads, gives is in k
   pub record EntryIn (k : List ℕ) (c v j : ℕ) : Type 0 where
@@ -154,15 +141,11 @@ module _ (m : Scene) where
     pub owned : (n : ℕ) → n < mostDevices → active (m .state) (n + 1) ≡ true → hardcodedTo (m .config) (n + 1) o ≡ true
         → Has k o n
 
-  -- a hardcoded descriptor is a device's of the configuration
-  abbrev pub Owners : Type 0
-  Owners = (c o : ℕ) → hardcodedTo (m .config) c o ≡ true → In (m .config .counts .devices) c
-
   -- k has what holds before any step
   pub record Begun (k : List ℕ) : Type 0 where
     pub sound : Sound k
     pub given : (o : ℕ) → In (m .config .counts .objects) o → BegunAt k o
-    pub owners : Owners
+    pub owners : Owners m
 
   -- before any step: what is read is still to be followed
   pub record Seeded (k t : List ℕ) (d : ℕ) : Type 0 where

@@ -13,7 +13,7 @@ ghost use Rattle.model.specs.State.{view};
 ghost use Rattle.model.specs.Closure.{confined, unnamed};
 ghost use Rattle.model.specs.Questions.{ask};
 ghost use Rattle.model.specs.declared.Devices.{Devices};
-ghost use Rattle.closure.specs.Scene.{searchConfig, sceneOf, ValuesOk, OwnersOk, AreaOk};
+ghost use Rattle.scene.specs.Scene.{searchConfig, sceneOf, ValuesOk, OwnersOk, AreaOk};
 ghost use Rattle.closure.specs.Search.{Fines, Answers, findingMeans, IsCrossing, IsNaming};
 use model::Counts;
 use model::ENTRY_SLOTS;

@@ -1,26 +1,26 @@
 // The words before any step: the device that a hardcoded descriptor belongs to, and the value that a descriptor holds.
-use crate::area;
-use crate::rules;
 use crate::spread;
 use crate::spread::DEVICE_WORDS;
 use crate::spread::FIRST_VALUE;
-use crate::words;
 ghost use mathlib.Core.Path.{_≡_};
 ghost use Prim.Native.Nat.{_+_, _%_, _^_};
 ghost use lib.ListN.{length, replicate, getD};
 ghost use mathlib.Core.Bool.{true};
 ghost use Rattle.model.specs.Config.{mostDevices};
 ghost use Rattle.model.specs.State.{view};
-ghost use Rattle.closure.specs.Scene.{In, Scene, starting, OwnersOk, AreaOk, objectSlots, valueSlots};
-ghost use Rattle.closure.specs.Digits.{bit};
+ghost use Rattle.scene.specs.Scene.{In, Scene, starting, OwnersOk, AreaOk, objectSlots, valueSlots};
+ghost use Rattle.scene.specs.Digits.{bit};
 ghost use Rattle.closure.specs.Words.{OwnWord, ValueWord, FirstWord, Gave, Seeded};
-ghost use Rattle.closure.specs.Rules.{holdsValue};
+ghost use Rattle.scene.specs.Rules.{holdsValue};
 use model::Counts;
 use model::HARDCODED_KIND;
 use model::OBJECT_SLOTS;
 use model::TRANSFER_KIND;
 use model::VALUE_SLOTS;
 use model::wide;
+use scene::area;
+use scene::rules;
+use scene::words;
 
 // The device whose hardcoded descriptor o is, if it is active.
 fn owner_of<'a>(

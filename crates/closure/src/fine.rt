@@ -1,20 +1,20 @@
 // Which devices may name an object: a word for each object.
-use crate::area;
 use crate::spread::DEVICE_WORDS;
-use crate::words;
 ghost use mathlib.Core.Path.{_≡_};
 ghost use Prim.Native.Nat.{ℕ, _+_, _≤_};
 ghost use lib.ListN.{length};
 ghost use Rattle.model.specs.Config.{mostDevices, mostObjects};
 ghost use Rattle.model.specs.State.{areaLength, view};
-ghost use Rattle.closure.specs.Scene.{In};
-ghost use Rattle.closure.specs.Digits.{bit};
-ghost use Rattle.closure.specs.Rules.{crossing, naming};
+ghost use Rattle.scene.specs.Scene.{In};
+ghost use Rattle.scene.specs.Digits.{bit};
+ghost use Rattle.scene.specs.Rules.{crossing, naming};
 ghost use Rattle.closure.specs.Search.{Parts, FineWord, Fines};
 use model::Counts;
 use model::HARDCODED_KIND;
 use model::OBJECT_SLOTS;
 use model::wide;
+use scene::area;
+use scene::words;
 
 // How many numbers a byte, a partition, can be.
 const BYTES: usize = 256;

@@ -1,17 +1,14 @@
 // What the entries of a value give to the devices that read it.
 // done[v]: digit c - 1: what the entries of value v give to device c is in `known`, and it may name their objects.
-use crate::rules;
-use crate::rules::ENTRY_ROOM;
 use crate::spread;
 use crate::spread::DEVICE_WORDS;
-use crate::words;
 ghost use mathlib.Core.Path.{_≡_};
 ghost use mathlib.Core.Bool.{true};
 ghost use Prim.Native.Nat.{ℕ, _+_, _*_, _^_, _≤_, _<_};
 ghost use lib.ListN.{length, getD};
 ghost use Rattle.model.specs.Config.{entryAt};
-ghost use Rattle.closure.specs.Digits.{bit, Without};
-ghost use Rattle.closure.specs.Scene.{Scene, following, ValuesOk, EntryOk, objectSlots, valueSlots};
+ghost use Rattle.scene.specs.Digits.{bit, Without};
+ghost use Rattle.scene.specs.Scene.{Scene, following, ValuesOk, EntryOk, objectSlots, valueSlots};
 ghost use Rattle.closure.specs.Words.{Low, Grew, Followed, Each, Sound, EntriesIn, slack};
 ghost use Rattle.closure.specs.Search.{NoStrange, StrangeIn, Going, Suspected};
 use model::Counts;
@@ -21,6 +18,9 @@ use model::HARDCODED_KIND;
 use model::OBJECT_SLOTS;
 use model::TRANSFER_KIND;
 use model::VALUE_SLOTS;
+use scene::rules;
+use scene::rules::ENTRY_ROOM;
+use scene::words;
 
 // The values with something to do; and the devices, none or some, that may not name the object of an entry.
 pub struct Turn {

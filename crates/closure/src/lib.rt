@@ -1,14 +1,9 @@
-// The transitive closure of descriptor writes (document 01: reach), behind questions 18, 19 and 20: sets of devices and
+// The transitive closure of descriptor writes (document 01: reach), behind questions 19 and 20: sets of devices and
 // values as words, grown by the entries of values that devices come to read, and searched for an entry.
 pub mod answer;
-mod area;
 mod begin;
 mod fine;
 mod grow;
-pub mod offers;
-mod rules;
 pub mod search;
 mod settle;
 mod spread;
-pub mod today;
-mod words;

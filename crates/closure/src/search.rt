@@ -1,11 +1,9 @@
 // The search for an entry that names an object which its device may not name: nested loops over devices, pairs and
 // entries, left at the first such entry.
-use crate::rules::ENTRY_ROOM;
 use crate::spread::FIRST_VALUE;
-use crate::words;
 ghost use Prim.Native.Nat.{_≤_, _<_};
 ghost use Rattle.model.specs.Config.{mostDevices, mostObjects, mostValues};
-ghost use Rattle.closure.specs.Scene.{ValuesOk};
+ghost use Rattle.scene.specs.Scene.{ValuesOk};
 ghost use Rattle.closure.specs.Search.{Listed, Finds};
 use model::Counts;
 use model::ENTRY_BYTES;
@@ -13,6 +11,8 @@ use model::ENTRY_SLOTS;
 use model::OBJECT_SLOTS;
 use model::VALUE_SLOTS;
 use model::wide;
+use scene::rules::ENTRY_ROOM;
+use scene::words;
 
 // An entry: its device, its descriptor, its value, and its number in the value, from 1; or nothing.
 pub enum Finding {

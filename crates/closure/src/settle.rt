@@ -1,18 +1,18 @@
 // Values with something to do, one after the other, until there is none; or until a device comes to an entry whose
 // object it may not name.
 use crate::grow;
-use crate::words;
 ghost use mathlib.Core.Path.{_≡_};
 ghost use mathlib.Core.Bool.{true};
 ghost use Prim.Native.Nat.{ℕ, _≤_};
 ghost use lib.ListN.{length};
-ghost use Rattle.closure.specs.Digits.{bit};
-ghost use Rattle.closure.specs.Scene.{Scene, following, ValuesOk, objectSlots, valueSlots};
+ghost use Rattle.scene.specs.Digits.{bit};
+ghost use Rattle.scene.specs.Scene.{Scene, following, ValuesOk, objectSlots, valueSlots};
 ghost use Rattle.closure.specs.Search.{Going, Ended, Suspected};
 use model::Counts;
 use model::ENTRY_SLOTS;
 use model::OBJECT_SLOTS;
 use model::VALUE_SLOTS;
+use scene::words;
 
 // Where it ended: devices, and a value with an entry whose object these may not name; or none.
 pub struct Stop {

@@ -2,17 +2,17 @@
 // known[o]: digit c - 1: device c reads descriptor o; digit v + 16: the pair of o with value v is collected.
 // readers[v]: digit c - 1: device c reads a pair with value v.
 // A word of values: what is still to be done. Digit v: a device in readers[v] may be new there.
-use crate::words;
 ghost use mathlib.Core.Path.{_≡_};
 ghost use Prim.Native.Nat.{_+_, _^_, _≤_};
 ghost use lib.ListN.{length};
 ghost use Rattle.model.specs.Config.{mostDevices, mostObjects, mostValues};
-ghost use Rattle.closure.specs.Digits.{bit};
-ghost use Rattle.closure.specs.Scene.{objectSlots, valueSlots};
+ghost use Rattle.scene.specs.Digits.{bit};
+ghost use Rattle.scene.specs.Scene.{objectSlots, valueSlots};
 ghost use Rattle.closure.specs.Words.{Low, Gave, Grew, Added};
 use model::MOST_DEVICES;
 use model::OBJECT_SLOTS;
 use model::VALUE_SLOTS;
+use scene::words;
 
 // The digit of value 0 in a word of `known`.
 pub const FIRST_VALUE: usize = MOST_DEVICES as usize;

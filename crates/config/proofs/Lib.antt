@@ -1,3 +1,2 @@
 pub mod Readers
 pub mod Quick
-pub mod Questions

@@ -38,7 +38,7 @@ use Rattle.model.specs.declared.Counts.{Counts}
 use Rattle.model.specs.declared.Objects.{Objects}
 use Rattle.model.specs.declared.Values.{Values}
 use Rattle.varint.proofs.Numbers.{number-one}
-use Rattle.config.specs.Columns.{Within}
+use Rattle.sound.specs.Columns.{Within}
 use Rattle.config.specs.Quick.{oneByte, oneByteMost, isOwner, isObject, namesObject, countsFit}
 use Rattle.config.proofs.Readers.{field-value}
 

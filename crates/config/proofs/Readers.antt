@@ -50,8 +50,9 @@ use Rattle.model.specs.declared.Head.the-variants.{Counted, Stopped}
 use Rattle.model.specs.declared.Counts.{Counts}
 use Rattle.model.specs.declared.Config.{Config}
 use Rattle.model.specs.declared.Loaded.{Loaded}
-use Rattle.config.specs.Columns.{progress, objectsOf, devicesOf, valuesOf, configOf, Within}
-use Rattle.config.specs.Sound.{firstNo, restNo}
+use Rattle.config.specs.Readings.{progress}
+use Rattle.sound.specs.Columns.{objectsOf, devicesOf, valuesOf, configOf, Within}
+use Rattle.config.specs.Rest.{firstNo, restNo}
 
 and-false : (b : Bool) → b && false ≡ false
 and-false true = refl

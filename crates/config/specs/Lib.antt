@@ -1,3 +1,3 @@
-pub mod Columns
+pub mod Readings
 pub mod Quick
-pub mod Sound
+pub mod Rest

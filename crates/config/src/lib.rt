@@ -2,14 +2,13 @@
 // Columns are local arrays, lent to the readers; the struct is made once, at the end.
 mod fields;
 mod groups;
-mod sound;
 mod values;
 
 ghost use mathlib.Core.Path.{_≡_};
 ghost use Rattle.model.specs.Config.{blank};
 ghost use Rattle.model.specs.ConfigFile.{refused, accepted, load};
-ghost use Rattle.config.specs.Columns.{configOf, Within};
-ghost use Rattle.config.specs.Sound.{firstNo, restNo};
+ghost use Rattle.sound.specs.Columns.{configOf};
+ghost use Rattle.config.specs.Rest.{firstNo};
 use model::Config;
 use model::Counts;
 use model::DEVICE_SLOTS;

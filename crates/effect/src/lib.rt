@@ -19,8 +19,13 @@ use crate::moves::deactivate_external;
 use crate::moves::destroy_partition;
 use crate::transfers::copy_contents;
 use crate::transfers::write_items;
+use model::CONTENT_BYTES;
 use model::Config;
+use model::MOST_ITEMS;
 use model::Operation;
+
+// What the answer area has at least: room for the contents of every item.
+pub const ANSWER_BYTES: usize = CONTENT_BYTES * MOST_ITEMS;
 
 // An operation that questions 7, 8, 10 and 11 let by, on an area with `room` object records.
 pub fn carry_out(area: &mut [u8], room: usize, config: Config, op: Operation, answer: &mut [u8])

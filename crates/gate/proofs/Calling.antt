@@ -23,10 +23,10 @@ use Rattle.model.specs.declared.Operation.{Operation}
 use Rattle.model.proofs.Facts.{asked}
 use Rattle.questions.specs.Items.{namesNo, placesNo, firstNo}
 use Rattle.questions.proofs.Judging.{join, judge-first}
-use Rattle.gate.specs.Ready.{Complete, Asked}
-use Rattle.gate.specs.Asking.{stores, leaves}
+use Rattle.searches.specs.Ready.{Complete, Asked}
+use Rattle.searches.specs.Asking.{stores, leaves}
 use Rattle.gate.specs.Carried.{carried}
-use Rattle.gate.proofs.Asking
+use Rattle.searches.proofs.Asking
 
 -- the answer and both areas are those of the definition
 abbrev pub Carried : Config → List ℕ → List ℕ → List ℕ → ℕ → List ℕ → List ℕ → Type 0

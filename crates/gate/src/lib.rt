@@ -1,22 +1,10 @@
 // What a C host calls: numbers and byte areas in, a number out.
 mod call;
-mod leaving;
-mod next;
-mod transfers;
 
 ghost use mathlib.Core.Path.{_≡_};
 ghost use Rattle.model.specs.ConfigFile.{load};
 ghost use Rattle.model.specs.Programs.{Made, Operated};
-use model::CONTENT_BYTES;
-use model::MOST_ITEMS;
 use model::MOST_OBJECTS;
-use state::RECORD_BYTES;
-use state::RECORDS_FROM;
-
-// The length of the state area, and what the answer area has at least.
-pub const AREA_BYTES: usize = RECORDS_FROM + RECORD_BYTES * (MOST_OBJECTS as usize);
-
-pub const ANSWER_BYTES: usize = CONTENT_BYTES * MOST_ITEMS;
 
 // Questions 1 to 6 of a configuration file: 0, or the number of the first that is answered with no.
 #[no_mangle]

@@ -7,11 +7,11 @@ ghost use mathlib.Core.List.{_++_};
 ghost use lib.ListN.{length, drop};
 ghost use Rattle.model.specs.Office.{longRow, lineRow, judgedText, reported};
 ghost use Rattle.report.specs.Page.{Put, Counts};
-use gate::ANSWER_BYTES;
-use gate::AREA_BYTES;
+use effect::ANSWER_BYTES;
 use page::put;
 use page::put_decimal;
 use rows::put_rows;
+use state::AREA_BYTES;
 
 // How long `line.bin` and `session.bin` are at most.
 pub const MOST_FILE: usize = 4096;

@@ -9,6 +9,7 @@ pub mod look;
 use model::CONTENT_BYTES;
 use model::MOST_DEVICES;
 use model::MOST_DRIVERS;
+use model::MOST_OBJECTS;
 
 // The area (document 01, 'State area'): the status of partitions 0 to 63, a byte for each driver, a byte for each
 // device, and a record for each object: its partition, then its contents.
@@ -28,6 +29,9 @@ pub(crate) const DRIVERS_FROM: usize = PARTITIONS;
 pub const DEVICES_FROM: usize = DRIVERS_FROM + DRIVER_BYTES;
 
 pub const RECORDS_FROM: usize = DEVICES_FROM + DEVICE_BYTES;
+
+// The length of an area with a record for each object that there may be.
+pub const AREA_BYTES: usize = RECORDS_FROM + RECORD_BYTES * (MOST_OBJECTS as usize);
 
 // The status of a partition: never used, existing, destroyed; and the largest.
 pub const UNUSED: u8 = 0;

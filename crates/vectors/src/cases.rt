@@ -5,6 +5,7 @@ ghost use lib.ListN.{length};
 use model::MOST_ITEMS;
 use model::MOST_OBJECTS;
 use model::Operation;
+use state::AREA_BYTES;
 use state::bytes::wide_word;
 
 // What a case calls: the load check; making a fresh state in an area of the right length, of a byte less and of a byte
@@ -23,8 +24,6 @@ const OPERATION: u8 = 4;
 
 // The answer for a case that is none.
 const UNKNOWN: u32 = 255;
-
-const AREA_BYTES: usize = 1728;
 
 // What an area holds before a fresh state is made in it.
 const OLD_BYTE: u8 = 170;

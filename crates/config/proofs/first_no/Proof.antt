@@ -1,6 +1,6 @@
 -- `config::first_no` meets its contract: by the two answers. Assumes nothing.
 use borrow.Author.Tests.{not-true, not-false}
-use Rattle.config.specs.Sound.{firstNo}
+use Rattle.config.specs.Rest.{firstNo}
 use Rattle.config.proofs.first_no.Statement.{statement}
 use Rattle.config.proofs.first_no.Tie as tie
 

@@ -4,7 +4,7 @@ use mathlib.Core.Path.{refl, _∙_}
 use borrow.Author.Needs.{needs}
 use Rattle.model.specs.ConfigFile.{objectsAt, devicesAt, valuesAt}
 use Rattle.config.proofs.Readers
-use Rattle.config.proofs.Questions
+use Rattle.sound.proofs.Questions
 use Rattle.config.proofs.load.Statement.{statement}
 use Rattle.config.proofs.load.Tie as tie
 

@@ -1,6 +1,6 @@
 -- `gate::gate_operate` meets its contract: the file is refused, or the call is carried out. Assumes nothing.
 use borrow.Author.Needs.{needs}
-use Rattle.gate.proofs.Readying
+use Rattle.searches.proofs.Readying
 use Rattle.gate.proofs.Calling
 use Rattle.gate.proofs.gate_operate.Statement.{statement}
 use Rattle.gate.proofs.gate_operate.Tie as tie

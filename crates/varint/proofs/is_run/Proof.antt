@@ -1,7 +1,6 @@
 -- `varint::is_run` meets its contract: `all` tells of the first i bytes. Assumes nothing.
 use Prim.Native.Nat.{_≤_, _-_}
 use mathlib.Core.Path.{_≡_, refl}
-use native.Mathlib.Omega.{arith}
 use borrow.Author.Needs.{needs}
 use Rattle.varint.specs.Run.{runBytes, highRun}
 use Rattle.varint.proofs.Numbers

@@ -6,7 +6,6 @@ use borrow.Author.Needs.{needs}
 use borrow.Author.Tests.{not-false}
 use lib.ListN.{length, drop}
 use Rattle.model.specs.Number.{lead}
-use Rattle.varint.specs.Run.{fullRun}
 use Rattle.varint.proofs.Numbers
 use Rattle.varint.proofs.pass_runs.Statement.{statement}
 use Rattle.varint.proofs.pass_runs.Tie as tie

@@ -6,8 +6,8 @@ use native.Mathlib.Omega.{arith}
 use denote.Ref.{now}
 use Rattle.model.specs.declared.Devices.{Devices}
 use Rattle.model.specs.State.{view}
-use Rattle.closure.specs.Scene.{Scene, sceneOf, valueSlots}
-use Rattle.closure.proofs.Digits.{some-bit}
+use Rattle.scene.specs.Scene.{Scene, sceneOf, valueSlots}
+use Rattle.scene.proofs.Digits.{some-bit}
 use Rattle.closure.proofs.Starting.{going-start}
 use Rattle.closure.proofs.Answering.{answers-none, answers-find}
 use borrow.Author.Needs.{needs}

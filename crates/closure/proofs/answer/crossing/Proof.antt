@@ -5,8 +5,8 @@ use borrow.Author.Needs.{needs}
 use Rattle.model.specs.declared.Config.{Config}
 use Rattle.model.specs.declared.Devices.{Devices}
 use Rattle.model.specs.State.{view}
-use Rattle.closure.specs.Scene.{searchConfig}
-use Rattle.closure.specs.Rules.{crossing}
+use Rattle.scene.specs.Scene.{searchConfig}
+use Rattle.scene.specs.Rules.{crossing}
 use Rattle.closure.proofs.Answering.{crossing-answer, crossing-entry}
 use Rattle.closure.proofs.answer.crossing.Statement.{statement}
 use Rattle.closure.proofs.answer.crossing.Tie as tie

@@ -4,8 +4,8 @@ use borrow.Author.Needs.{needs}
 use Rattle.model.specs.declared.Config.{Config}
 use Rattle.model.specs.declared.Devices.{Devices}
 use Rattle.model.specs.State.{view}
-use Rattle.closure.specs.Scene.{searchConfig}
-use Rattle.closure.specs.Rules.{naming}
+use Rattle.scene.specs.Scene.{searchConfig}
+use Rattle.scene.specs.Rules.{naming}
 use Rattle.closure.proofs.Answering.{naming-answer, naming-entry}
 use Rattle.closure.proofs.answer.naming.Statement.{statement}
 use Rattle.closure.proofs.answer.naming.Tie as tie

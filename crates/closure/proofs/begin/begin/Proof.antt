@@ -8,11 +8,11 @@ use native.Mathlib.Omega.{arith}
 use Prim.Native.Nat.{ℕ, _≤_, _<_, _-_, _+_}
 use denote.Ref.{now}
 use Rattle.model.specs.State.{view}
-use Rattle.closure.specs.Digits.{bit}
-use Rattle.closure.specs.Words.{Has, By, Covered, Sound, BegunAt}
-use Rattle.closure.specs.Scene.{Scene, starting, In, objectSlots, valueSlots}
+use Rattle.scene.specs.Digits.{bit, Has}
+use Rattle.closure.specs.Words.{By, Covered, Sound, BegunAt}
+use Rattle.scene.specs.Scene.{Scene, starting, In, objectSlots, valueSlots}
+use Rattle.scene.proofs.Ranges.{owners-of}
 use Rattle.closure.proofs.Starting.{
-  owners-of,
   begin-more,
   sound-none,
   getD-none,
@@ -23,7 +23,7 @@ use Rattle.closure.proofs.Starting.{
   seed-marked,
   seed-zero,
 }
-use Rattle.closure.proofs.Giving.{no-digit}
+use Rattle.scene.proofs.Widening.{no-digit}
 use Rattle.closure.proofs.Growing.{sound-set}
 use Rattle.closure.proofs.begin.begin.Statement.{statement}
 use Rattle.closure.proofs.begin.begin.Tie as tie

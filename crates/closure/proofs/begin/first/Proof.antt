@@ -8,8 +8,9 @@ use native.Mathlib.Omega.{arith}
 use denote.Ref.{now}
 use Rattle.model.specs.State.{view}
 use Rattle.closure.specs.Words.{FirstWord}
-use Rattle.closure.specs.Scene.{starting}
-use Rattle.closure.proofs.Starting.{own-kind, first-word, value-none, value-above, starts-never, holds-kind}
+use Rattle.scene.specs.Scene.{starting}
+use Rattle.closure.proofs.Starting.{own-kind, first-word, value-none, value-above}
+use Rattle.scene.proofs.Ranges.{starts-never, holds-kind}
 use borrow.Author.Needs.{needs}
 use Rattle.closure.proofs.begin.first.Statement.{statement}
 use Rattle.closure.proofs.begin.first.Tie as tie

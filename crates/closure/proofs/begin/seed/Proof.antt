@@ -3,7 +3,7 @@ use mathlib.Core.Path.{_≡_, sym, subst}
 use Prim.Native.Nat.{ℕ, _+_, _%_, _^_}
 use denote.Ref.{now}
 use Rattle.model.specs.Config.{mostDevices}
-use Rattle.closure.specs.Digits.{bit}
+use Rattle.scene.specs.Digits.{bit}
 use Rattle.closure.specs.Words.{Gave}
 use Rattle.closure.proofs.Giving.{gave-nobody}
 use borrow.Author.Needs.{needs}

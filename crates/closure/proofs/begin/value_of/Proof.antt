@@ -4,7 +4,8 @@ use mathlib.Core.Path.{_∙_}
 use native.Mathlib.Omega.{arith}
 use denote.Ref.{now}
 use Rattle.model.specs.State.{view}
-use Rattle.closure.proofs.Starting.{value-none, value-one, starts-of, starts-not}
+use Rattle.closure.proofs.Starting.{value-none, value-one}
+use Rattle.scene.proofs.Ranges.{starts-of, starts-not}
 use borrow.Author.Needs.{needs}
 use Rattle.closure.proofs.begin.value_of.Statement.{statement}
 use Rattle.closure.proofs.begin.value_of.Tie as tie

@@ -7,8 +7,8 @@ use denote.Ref.{now}
 use borrow.Author.Needs.{needs}
 use Rattle.model.specs.State.{view}
 use Rattle.closure.specs.Search.{FineWord}
-use Rattle.closure.specs.Scene.{objectSlots}
-use Rattle.closure.specs.Rules.{crossing}
+use Rattle.scene.specs.Scene.{objectSlots}
+use Rattle.scene.specs.Rules.{crossing}
 use Rattle.closure.proofs.Finding.{fine-more}
 use Rattle.closure.proofs.fine.all_inside.Statement.{statement}
 use Rattle.closure.proofs.fine.all_inside.Tie as tie

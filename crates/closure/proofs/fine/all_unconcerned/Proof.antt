@@ -7,8 +7,8 @@ use denote.Ref.{now}
 use borrow.Author.Needs.{needs}
 use Rattle.model.specs.Config.{mostDevices}
 use Rattle.closure.specs.Search.{FineWord}
-use Rattle.closure.specs.Scene.{objectSlots}
-use Rattle.closure.specs.Rules.{naming}
+use Rattle.scene.specs.Scene.{objectSlots}
+use Rattle.scene.specs.Rules.{naming}
 use Rattle.closure.proofs.Finding.{fine-more, fine-unconcerned}
 use Rattle.closure.proofs.fine.all_unconcerned.Statement.{statement}
 use Rattle.closure.proofs.fine.all_unconcerned.Tie as tie

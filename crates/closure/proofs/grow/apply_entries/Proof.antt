@@ -9,13 +9,14 @@ use Prim.Native.Nat.{ℕ, _≤_, _<_, _-_, _+_}
 use denote.Ref.{now}
 use Rattle.model.specs.Config.{entryPlace}
 use Rattle.model.specs.declared.Counts.{Counts}
-use Rattle.closure.specs.Words.{Has, Grew, Each, Sound, EntriesIn}
+use Rattle.scene.specs.Digits.{Has}
+use Rattle.closure.specs.Words.{Grew, Each, Sound, EntriesIn}
 use Rattle.closure.specs.Search.{NoStrange}
-use Rattle.closure.specs.Scene.{Scene, following, ValuesOk, EntryOk, In, objectSlots, valueSlots}
-use Rattle.closure.proofs.Ranges.{entry-ok}
+use Rattle.scene.specs.Scene.{Scene, following, ValuesOk, EntryOk, In, objectSlots, valueSlots}
+use Rattle.scene.proofs.Ranges.{entry-ok}
 use Rattle.closure.proofs.Giving.{grew-none, grew-then}
 use Rattle.closure.proofs.Growing.{entry-in, entry-sound, entries-more, followed-at, strange-more}
-use Rattle.closure.proofs.Digits.{bit-zero, some-bit}
+use Rattle.scene.proofs.Digits.{bit-zero, some-bit}
 use Rattle.closure.proofs.grow.apply_entries.Statement.{statement}
 use Rattle.closure.proofs.grow.apply_entries.Tie as tie
 

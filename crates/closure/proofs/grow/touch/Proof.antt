@@ -6,9 +6,9 @@ use mathlib.Core.Path.{_≡_, refl, subst, _∙_}
 use Prim.Native.Nat.{ℕ, _<_}
 use native.Mathlib.Omega.{arith}
 use denote.Ref.{now}
-use Rattle.closure.specs.Digits.{bit}
-use Rattle.closure.specs.Scene.{following}
-use Rattle.closure.proofs.Digits.{bit-zero}
+use Rattle.scene.specs.Digits.{bit}
+use Rattle.scene.specs.Scene.{following}
+use Rattle.scene.proofs.Digits.{bit-zero}
 use Rattle.closure.proofs.Growing.{low-mod}
 use Rattle.closure.proofs.Turning.{fresh-each, going-none, suspected-of, going-some, fresh-slack}
 use borrow.Author.Needs.{needs}

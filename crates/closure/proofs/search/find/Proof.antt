@@ -8,11 +8,10 @@ use native.Mathlib.Omega.{arith}
 use Prim.Native.Nat.{ℕ, _≤_, _<_, _-_, _+_}
 use denote.Ref.{now}
 use Rattle.model.specs.Config.{entryPlace}
-use Rattle.closure.specs.Words.{Has}
+use Rattle.scene.specs.Digits.{Has, bit}
 use Rattle.closure.specs.Search.{PairFine}
-use Rattle.closure.specs.Scene.{In, EntryOk}
-use Rattle.closure.specs.Digits.{bit}
-use Rattle.closure.proofs.Ranges.{entry-ok}
+use Rattle.scene.specs.Scene.{In, EntryOk}
+use Rattle.scene.proofs.Ranges.{entry-ok}
 use Rattle.closure.proofs.Finding.{has-true, has-false, next-all}
 use Rattle.closure.proofs.search.find.Statement.{statement}
 use Rattle.closure.proofs.search.find.Tie as tie

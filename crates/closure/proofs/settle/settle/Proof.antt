@@ -8,8 +8,8 @@ use native.Mathlib.Omega.{arith}
 use denote.Ref.{now}
 use Rattle.closure.specs.Words.{slack}
 use Rattle.closure.specs.Search.{Going}
-use Rattle.closure.specs.Scene.{Scene, following, objectSlots, valueSlots}
-use Rattle.closure.proofs.Digits.{bit-zero}
+use Rattle.scene.specs.Scene.{Scene, following, objectSlots, valueSlots}
+use Rattle.scene.proofs.Digits.{bit-zero}
 use Rattle.closure.proofs.Turning.{ended-of}
 use Rattle.closure.proofs.settle.settle.Statement.{statement}
 use Rattle.closure.proofs.settle.settle.Tie as tie

@@ -5,8 +5,8 @@ use native.Mathlib.Omega.{arith}
 use Prim.Native.Nat.{_<_, _^_}
 use denote.Ref.{now}
 use Rattle.model.specs.Config.{mostDevices}
-use Rattle.closure.specs.Scene.{valueSlots}
-use Rattle.closure.proofs.Digits.{high-bit, bit-below}
+use Rattle.scene.specs.Scene.{valueSlots}
+use Rattle.scene.proofs.Digits.{high-bit, bit-below}
 use Rattle.closure.proofs.Giving.{Giving, giving-none, giving-more, giving-all}
 use Rattle.closure.proofs.spread.spread.Statement.{statement}
 use Rattle.closure.proofs.spread.spread.Tie as tie

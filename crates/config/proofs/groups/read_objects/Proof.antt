@@ -3,7 +3,7 @@
 use borrow.Author.Needs.{needs}
 use Prim.Native.Nat.{_≤_, _-_}
 use mathlib.Core.Path.{_≡_, sym, _∙_}
-use Rattle.config.specs.Columns.{objectsOf}
+use Rattle.sound.specs.Columns.{objectsOf}
 use Rattle.model.specs.ConfigFile.{turns, object}
 use Rattle.config.proofs.Readers
 use Rattle.config.proofs.groups.read_objects.Statement.{statement}

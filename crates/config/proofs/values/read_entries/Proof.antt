@@ -5,7 +5,7 @@ use mathlib.Core.List.{List}
 use Prim.Native.Nat.{ℕ, _≤_, _-_, _+_}
 use native.Mathlib.Omega.{arith}
 use mathlib.Core.Path.{_≡_, sym, _∙_}
-use Rattle.config.specs.Columns.{valuesOf}
+use Rattle.sound.specs.Columns.{valuesOf}
 use Rattle.model.specs.Config.{entryPlace}
 use Rattle.model.specs.ConfigFile.{turns, entry}
 use Rattle.config.proofs.Readers

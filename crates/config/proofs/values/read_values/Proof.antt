@@ -3,7 +3,7 @@
 use borrow.Author.Needs.{needs}
 use Prim.Native.Nat.{_≤_, _-_}
 use mathlib.Core.Path.{_≡_, sym, _∙_}
-use Rattle.config.specs.Columns.{valuesOf}
+use Rattle.sound.specs.Columns.{valuesOf}
 use Rattle.model.specs.ConfigFile.{turns, value}
 use Rattle.config.proofs.Readers
 use Rattle.config.proofs.values.read_values.Statement.{statement}

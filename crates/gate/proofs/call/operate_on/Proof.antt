@@ -3,7 +3,7 @@ use borrow.Author.Tests.{not-true, not-false, eqb-true}
 use mathlib.Core.Path.{_∙_, sym}
 use borrow.Author.Needs.{needs}
 use Rattle.state.proofs.Forms.{whole-formed}
-use Rattle.gate.proofs.Readying
+use Rattle.searches.proofs.Readying
 use Rattle.gate.proofs.Calling
 use Rattle.gate.proofs.call.operate_on.Statement.{statement}
 use Rattle.gate.proofs.call.operate_on.Tie as tie

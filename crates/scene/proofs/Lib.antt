@@ -1,0 +1,4 @@
+pub mod Digits
+pub mod Widening
+pub mod Ranges
+pub mod Accepting

@@ -1,0 +1,200 @@
+-- Questions 18 to 20 from their parts. Assumes nothing.
+use Prim.Native.Nat.{ℕ, zero, suc}
+use mathlib.Core.Path.{_≡_, refl, sym, ap, _∙_, subst}
+use mathlib.Core.List.{List}
+use mathlib.Core.Bool.{Bool, true, false, true≢false, false≢true}
+use lib.ListN.{getD}
+use lib.Dec.{eqb}
+use borrow.Author.Tests.{eq-eqb, ne-eqb}
+use Rattle.model.specs.Base.{below}
+use Rattle.model.specs.State.{State, held, view, layout}
+use Rattle.model.specs.Operation.{objectAt, secondAt}
+use Rattle.model.specs.Effect.{apply, concerned}
+use Rattle.model.specs.Closure.{confined, unnamed, described}
+use Rattle.model.specs.Questions.{readEntry, writeEntry, transfer, q18, q19, q20, itself}
+use Rattle.model.specs.Gate.{applied}
+use Rattle.model.specs.declared.Family.{Family}
+use Rattle.model.specs.declared.Family.the-variants.{Write, Copy, Create, Destroy, Activate, Deactivate}
+use Rattle.model.specs.declared.Actor.{Actor}
+use Rattle.model.specs.declared.Actor.the-variants.{Driver, Device, External}
+use Rattle.model.specs.declared.Config.{Config}
+use Rattle.model.specs.declared.Operation.{Operation}
+use Rattle.questions.specs.Items.{allBelow}
+use Rattle.searches.specs.Ready.{Searchable, Ready, Asked}
+use Rattle.searches.specs.Asking.{stores, leaves, byDevice, pairDescribed, transferOf, itemDescribed, Marks}
+use Rattle.searches.proofs.Readying
+
+-- only a deactivation leaves
+pub leaves-is : (f : Family) → leaves f ≡ true → f ≡ Deactivate
+leaves-is Write h = absurd (false≢true h)
+leaves-is Copy h = absurd (false≢true h)
+leaves-is Create h = absurd (false≢true h)
+leaves-is Destroy h = absurd (false≢true h)
+leaves-is Activate h = absurd (false≢true h)
+leaves-is Deactivate h = refl
+
+-- question 18, of a pair
+module _ (config : Config) (b : State) (c o v : ℕ) {s : Bool} (e : s ≡ described config b c (readEntry o)) where
+  pub pair-unread : s ≡ false → false ≡ pairDescribed config b c o v
+  unfolding pairDescribed
+  pair-unread h = rw (← e, h)
+
+  pub pair-read : s ≡ true → v ≡ 0 → true ≡ pairDescribed config b c o v
+  unfolding pairDescribed
+  pair-read h z = rw (← e, h, eq-eqb v 0 z)
+
+  pub pair-written : s ≡ true → (v ≡ 0 → ⊥) → {x : ℕ} → x ≡ held b o → {r : Bool}
+      → r ≡ described config b c (writeEntry config v x) → r ≡ pairDescribed config b c o v
+  unfolding pairDescribed
+  pair-written h z {x} p q = rw (← e, h, ne-eqb v 0 z, ← p) q
+
+-- question 18, of an item
+module _ (config : Config) (b : State) (c : ℕ) {f : Family} (o v : ℕ) where
+  pub item-write : f ≡ Write → {r : Bool} → r ≡ described config b c (writeEntry config o v)
+      → r ≡ transferOf config b c f o v
+  unfolding transferOf
+  item-write e h = rw e h
+
+  pub item-copy : f ≡ Copy → {r : Bool} → r ≡ pairDescribed config b c o v → r ≡ transferOf config b c f o v
+  unfolding transferOf
+  item-copy e h = rw e h
+
+  pub item-create : f ≡ Create → true ≡ transferOf config b c f o v
+  unfolding transferOf
+  item-create e = rw e
+
+  pub item-destroy : f ≡ Destroy → true ≡ transferOf config b c f o v
+  unfolding transferOf
+  item-destroy e = rw e
+
+  pub item-activate : f ≡ Activate → true ≡ transferOf config b c f o v
+  unfolding transferOf
+  item-activate e = rw e
+
+  pub item-deactivate : f ≡ Deactivate → true ≡ transferOf config b c f o v
+  unfolding transferOf
+  item-deactivate e = rw e
+
+-- what a loop reads of item i
+pub item-at : (config : Config) (b : State) (op : Operation) (f : Family) (i : ℕ) {o v : ℕ} {r : Bool}
+    → r ≡ transferOf config b (op .subject) f o v → o ≡ objectAt op i → v ≡ secondAt op i
+    → r ≡ itemDescribed config b op f i
+unfolding itemDescribed
+item-at config b op f i h p q = rw (← p, ← q) h
+
+-- question 18
+module _ (config : Config) (b : State) (op : Operation) where
+  below-same : (n : ℕ) (p q : ℕ → Bool) → ((i : ℕ) → p i ≡ q i) → below n p ≡ below n q
+  below-same zero p q h = refl
+  below-same (suc n) p q h = rw (below-same n p q h, h n)
+
+  below-all : (n : ℕ) (p : ℕ → Bool) → ((i : ℕ) → p i ≡ true) → below n p ≡ true
+  below-all zero p h = refl
+  below-all (suc n) p h = rw (below-all n p h, h n)
+
+  same : (f : Family) (i : ℕ) → itemDescribed config b op f i ≡ transfer config b op f i
+  unfolding itemDescribed transferOf pairDescribed
+  same Write i = refl
+  same Copy i = refl
+  same Create i = refl
+  same Destroy i = refl
+  same Activate i = refl
+  same Deactivate i = refl
+
+  free : (f : Family) → stores f ≡ false → (i : ℕ) → transfer config b op f i ≡ true
+  free Write h i = absurd (true≢false h)
+  free Copy h i = absurd (true≢false h)
+  free Create h i = refl
+  free Destroy h i = refl
+  free Activate h i = refl
+  free Deactivate h i = refl
+
+  pub q18-other : (f : Family) (a : Actor) → byDevice a ≡ false → true ≡ q18 config b op f a
+  unfolding q18
+  q18-other f Driver h = refl
+  q18-other f Device h = absurd (true≢false h)
+  q18-other f External h = refl
+
+  pub q18-free : (f : Family) (a : Actor) → stores f ≡ false → true ≡ q18 config b op f a
+  unfolding q18
+  q18-free f Driver h = refl
+  q18-free f Device h = sym (below-all (op .count) (transfer config b op f) (free f h))
+  q18-free f External h = refl
+
+  pub q18-items : (f : Family) (a : Actor) → byDevice a ≡ true → {r : Bool}
+      → r ≡ allBelow (op .count) (itemDescribed config b op f) → r ≡ q18 config b op f a
+  unfolding q18 allBelow
+  q18-items f Driver h e = absurd (false≢true h)
+  q18-items f Device h e =
+      e ∙ below-same (op .count) (itemDescribed config b op f) (transfer config b op f) (same f)
+  q18-items f External h e = absurd (false≢true h)
+
+  -- question 19
+  pub q19-device : (f : Family) (a : Actor) → byDevice a ≡ true → true ≡ q19 config b op f a
+  unfolding q19
+  q19-device f Driver h = absurd (false≢true h)
+  q19-device Write Device h = refl
+  q19-device Copy Device h = refl
+  q19-device Create Device h = refl
+  q19-device Destroy Device h = refl
+  q19-device Activate Device h = refl
+  q19-device Deactivate Device h = refl
+  q19-device f External h = absurd (false≢true h)
+
+  pub q19-free : (f : Family) (a : Actor) → stores f ≡ false → true ≡ q19 config b op f a
+  unfolding q19
+  q19-free Write a h = absurd (true≢false h)
+  q19-free Copy a h = absurd (true≢false h)
+  q19-free Create a h = refl
+  q19-free Destroy a h = refl
+  q19-free Activate a h = refl
+  q19-free Deactivate a h = refl
+
+  q19-after : (f : Family) (a : Actor) → stores f ≡ true → byDevice a ≡ false
+      → confined config (apply config op f a b) ≡ q19 config b op f a
+  unfolding q19
+  q19-after Write Driver h k = refl
+  q19-after Write Device h k = absurd (true≢false k)
+  q19-after Write External h k = refl
+  q19-after Copy Driver h k = refl
+  q19-after Copy Device h k = absurd (true≢false k)
+  q19-after Copy External h k = refl
+  q19-after Create a h k = absurd (false≢true h)
+  q19-after Destroy a h k = absurd (false≢true h)
+  q19-after Activate a h k = absurd (false≢true h)
+  q19-after Deactivate a h k = absurd (false≢true h)
+
+  -- question 20
+  pub q20-free : (f : Family) (a : Actor) → leaves f ≡ false → true ≡ q20 config b op f a
+  unfolding q20
+  q20-free Write a h = refl
+  q20-free Copy a h = refl
+  q20-free Create a h = refl
+  q20-free Destroy a h = refl
+  q20-free Activate a h = refl
+  q20-free Deactivate a h = absurd (true≢false h)
+
+  pub q20-table : (f : Family) (a : Actor) → leaves f ≡ true → (t : List ℕ) → Marks t (concerned config op a)
+      → {c : ℕ} → c ≡ itself op a → {r : Bool} → r ≡ unnamed config b (λ o. eqb (getD t o 0) 1) c
+      → r ≡ q20 config b op f a
+  unfolding q20 Marks
+  q20-table f a h t m {c} p q =
+      rw (leaves-is f h, ← p)
+      (q ∙ ap (λ (n : ℕ → Bool). unnamed config b n c) (λ i o. m o i))
+
+pub q19-next : (config : Config) (room : ℕ) (area : List ℕ) (op : Operation) (f : Family) (a : Actor)
+    → Ready config room area → Asked config op f a → stores f ≡ true → byDevice a ≡ false → {s : List ℕ}
+    → s ≡ layout (applied config op (view room area)) → {r : Bool} → r ≡ confined config (view room s)
+    → r ≡ q19 config (view room area) op f a
+q19-next config room area op f a ready asked h k {s} e p =
+    p ∙ (ap (confined config) (Readying.next-view config room area op f a ready asked s e)
+    ∙ q19-after config (view room area) op f a h k)
+
+-- question 19: what is searched is the area s that the operation leaves
+pub searched-at : (config : Config) (room : ℕ) (s t : List ℕ) → s ≡ t → Searchable config room t
+    → Searchable config room s
+searched-at config room s t e h = subst (Searchable config room) (sym e) h
+
+pub confined-at : (config : Config) (room : ℕ) (s t : List ℕ) → s ≡ t → (r : Bool) → r ≡ confined config (view room s)
+    → (r ≡ confined config (view room t)) × (s ≡ t)
+confined-at config room s t e r h = (h ∙ ap (λ (x : List ℕ). confined config (view room x)) e, e)

@@ -1,0 +1,198 @@
+-- What the questions before give: to a search, and to the effect on a scratch copy. Assumes nothing.
+use Prim.Native.Nat.{ℕ, _≤_}
+use mathlib.Core.Path.{_≡_, refl, sym, ap, _∙_, subst}
+use mathlib.Core.List.{List}
+use mathlib.Core.Bool.{Bool, true, false≢true}
+use native.Mathlib.Omega.{arith}
+use lib.ListN.{length, replicate}
+use lib.Dec.{eqb}
+use borrow.Author.Tests.{eqb-true}
+use Rattle.model.specs.Config.{mostObjects, mostValues}
+use Rattle.model.specs.ConfigFile.{load}
+use Rattle.model.specs.Number.{mostNumber}
+use Rattle.model.specs.State.{State, records, roomFor, areaLength, view, layout, wellFormed}
+use Rattle.model.specs.Operation.{familyOf, actorOf, mostItems, objectAt, readOperation}
+use Rattle.model.specs.Effect.{apply, answerBytes}
+use Rattle.model.specs.Questions.{q11, q13, isObject}
+use Rattle.model.specs.Gate.{applied, judged}
+use Rattle.model.specs.declared.Family.{Family}
+use Rattle.model.specs.declared.Family.the-variants.{Write, Copy, Create, Destroy, Activate, Deactivate}
+use Rattle.model.specs.declared.Actor.{Actor}
+use Rattle.model.specs.declared.Config.{Config}
+use Rattle.model.specs.declared.Loaded.{Loaded}
+use Rattle.model.specs.declared.Operation.{Operation}
+use Rattle.model.proofs.Lists.{from1to-high}
+use Rattle.model.proofs.Accepted.{Sound, load-sound}
+use Rattle.model.proofs.Facts.{objects-room, passed}
+use Rattle.model.proofs.Formed.{Formed, formed-of, formed-to, items-exist}
+use Rattle.model.proofs.FormedStores.{write-formed, copy-formed}
+use Rattle.model.proofs.OperationRange.{InRange, read-ranged}
+use Rattle.model.proofs.Reached.{layout-length}
+use Rattle.model.proofs.StateLaws.{Shape, view-layout, apply-shape}
+use Rattle.state.specs.Splice.{splice, part}
+use Rattle.state.proofs.Splicing.{splice-whole, part-whole}
+use Rattle.state.proofs.Places.{view-shape}
+use Rattle.effect.specs.Fit.{Fit}
+use Rattle.effect.proofs.Effects.{fit}
+use Rattle.scene.proofs.Accepting.{values-ok, owners-ok, area-ok}
+use Rattle.searches.specs.Ready.{Accepted, Searchable, Ready, Complete, Asked}
+use Rattle.searches.specs.Asking.{stores, InTable}
+
+pub accepted-of : (file : List ℕ) {l : Loaded} → l ≡ load file → l .answer ≡ 0 → Accepted (l .config)
+accepted-of file e z = record {
+  file = file;
+  yes = ap (λ (x : Loaded). x .answer) (sym e) ∙ z;
+  same = ap (λ (x : Loaded). x .config) e;
+}
+
+sound-of : (config : Config) → Accepted config → Sound config
+sound-of config a = subst Sound (sym (a .same)) (load-sound (a .file) (a .yes))
+
+-- questions 7 and 9 make an area that can be searched
+searchable : (config : Config) → Sound config → (area : List ℕ) → length area ≡ areaLength (records config)
+    → Formed config (view (records config) area) → Searchable config (records config) area
+searchable config sound area long formed =
+    record {
+      values = values-ok config sound;
+      owners = owners-ok config sound;
+      held = area-ok config sound (records config) area long (objects-room config sound)
+          (λ o i. formed .contents o (i .low) (omega (arith, i .high, objects-room config sound)));
+    }
+
+at-room : (config : Config) (room : ℕ) → room ≡ records config → Sound config → (area : List ℕ)
+    → length area ≡ areaLength room → wellFormed room config (view room area) ≡ true → Searchable config room area
+at-room config room k sound area =
+    subst (λ (n : ℕ). length area ≡ areaLength n → wellFormed n config (view n area) ≡ true → Searchable config n area)
+    (sym k) (λ long h. searchable config sound area long (formed-of config (view (records config) area) h))
+
+pub ready-of : (config : Config) (room : ℕ) (area : List ℕ) → Accepted config → room ≡ records config
+    → {t₇ : Bool} → t₇ ≡ eqb (length area) (areaLength room) → t₇ ≡ true
+    → {t₉ : Bool} → t₉ ≡ wellFormed room config (view room area) → t₉ ≡ true → Ready config room area
+ready-of config room area a k e₇ y₇ e₉ y₉ =
+    let long : length area ≡ areaLength room = eqb-true (length area) (areaLength room) (sym e₇ ∙ y₇) in
+    let h : wellFormed room config (view room area) ≡ true = sym e₉ ∙ y₉ in
+    record {
+      accepted = a;
+      records = k;
+      long = long;
+      formed = h;
+      searchable = at-room config room k (sound-of config a) area long h;
+    }
+
+pub complete-of : (bytes : List ℕ) {q : ℕ} {op : Operation} → q ≡ (readOperation bytes) .0
+    → op ≡ (readOperation bytes) .1 → q ≡ 0 → Complete op
+complete-of bytes e o z = record { bytes = bytes; yes = sym e ∙ z; same = o }
+
+ranged : (op : Operation) → Complete op → InRange op
+ranged op c = subst InRange (sym (c .same)) (read-ranged (c .bytes) (c .yes))
+
+pub few-items : (op : Operation) → Complete op → op .count ≤ mostItems
+few-items op c = ranged op c .few
+
+-- the room is that of the largest configuration
+pub room-is : (config : Config) → mostObjects ≡ records config
+unfolding roomFor
+room-is config = refl
+
+pub room-small : (config : Config) (room : ℕ) → room ≡ records config → room ≤ mostNumber
+unfolding roomFor
+room-small config room k = omega arith
+
+-- the state that would follow
+module _ (config : Config) (room : ℕ) (area : List ℕ) (op : Operation) (f : Family) (a : Actor)
+    (ready : Ready config room area) (asked : Asked config op f a) where
+  sound : Sound config
+  sound = sound-of config (ready .accepted)
+
+  q11-code : q11 config op (familyOf (op .code)) (actorOf (op .code)) ≡ true
+  q11-code =
+      subst (λ (x : Family). q11 config op x (actorOf (op .code)) ≡ true) (asked .family)
+      (subst (λ (x : Actor). q11 config op f x ≡ true) (asked .actor) (asked .p11))
+
+  pub fit-of : (s answer : List ℕ) → length s ≡ areaLength room → answerBytes ≤ length answer → Fit room op s answer
+  fit-of s answer long d =
+      let v : config .counts .values ≤ mostValues = sound .few .values in
+      fit room config op s answer long d (ranged op (asked .complete)) (omega arith) q11-code
+
+  pub spare-fit : Fit room op area (replicate answerBytes 0)
+  spare-fit = fit-of area (replicate answerBytes 0) (ready .long) (omega arith)
+
+  pub few-objects : config .counts .objects ≤ mostObjects
+  few-objects = sound .few .objects
+
+  -- question 20: listed objects are places of the table
+  pub small-of : f ≡ Deactivate → InTable (op .objects) (op .count)
+  unfolding InTable
+  small-of e i l =
+      let h : q11 config op Deactivate a ≡ true = subst (λ (x : Family). q11 config op x a ≡ true) e (asked .p11) in
+      let x : isObject config (objectAt op i) ≡ true = items-exist config op Deactivate a h i l in
+      omega (arith, from1to-high (objectAt op i) (config .counts .objects) x, few-objects)
+
+  next-formed : (g : Family) → stores g ≡ true → q11 config op g a ≡ true → q13 config op g ≡ true
+      → Formed config (view (records config) area) → Formed config (apply config op g a (view (records config) area))
+  next-formed Write s p q h = write-formed config sound op (view (records config) area) h a p q
+  next-formed Copy s p q h = copy-formed config sound op (view (records config) area) h a p q
+  next-formed Create s p q h = absurd (false≢true s)
+  next-formed Destroy s p q h = absurd (false≢true s)
+  next-formed Activate s p q h = absurd (false≢true s)
+  next-formed Deactivate s p q h = absurd (false≢true s)
+
+  pub next-state : applied config op (view room area) ≡ apply config op f a (view room area)
+  next-state =
+      sym (ap (λ (x : Family). apply config op x a (view room area)) (asked .family)
+      ∙ ap (λ (x : Actor). apply config op (familyOf (op .code)) x (view room area)) (asked .actor))
+
+  shape : Shape room (apply config op f a (view room area))
+  shape = apply-shape room config op f a (view room area) (view-shape room area)
+
+  module _ (s : List ℕ) (e : s ≡ layout (applied config op (view room area))) where
+    laid : s ≡ layout (apply config op f a (view room area))
+    laid = e ∙ ap layout next-state
+
+    pub next-view : view room s ≡ apply config op f a (view room area)
+    next-view = ap (view room) laid ∙ view-layout room (apply config op f a (view room area)) shape
+
+    next-long : length s ≡ areaLength room
+    next-long = ap length laid ∙ layout-length room (apply config op f a (view room area)) shape
+
+    pub next-searchable : stores f ≡ true → Searchable config room s
+    next-searchable t =
+        at-room config room (ready .records) sound s next-long
+        (subst (λ (b : State). wellFormed room config b ≡ true) (sym next-view) right)
+      where
+        right : wellFormed room config (apply config op f a (view room area)) ≡ true
+        right =
+            subst (λ (n : ℕ). wellFormed n config (view n area) ≡ true
+            → wellFormed n config (apply config op f a (view n area)) ≡ true) (sym (ready .records))
+            (λ h. formed-to config (apply config op f a (view (records config) area))
+            (next-formed f t (asked .p11) (asked .p13) (formed-of config (view (records config) area) h)))
+            (ready .formed)
+
+-- all questions are answered with yes
+pub passed-fit : (config : Config) (room : ℕ) (area answer : List ℕ) (op : Operation) → Ready config room area
+    → Complete op → {q : ℕ} → q ≡ judged config op (view room area) → q ≡ 0 → answerBytes ≤ length answer
+    → Fit room op area answer
+passed-fit config room area answer op ready complete e z d =
+    let p = passed config (view room area) op (familyOf (op .code)) (actorOf (op .code)) (sym e ∙ z) in
+    fit-of config room area op (familyOf (op .code)) (actorOf (op .code)) ready
+    (record { complete = complete; family = refl; actor = refl; p11 = p .p11; p13 = p .p13 }) area answer
+    (ready .long) d
+
+-- the scratch area has the state area's length
+pub scratch-length : (config : Config) (room : ℕ) (area : List ℕ) → Ready config room area → 1728 ≡ areaLength room
+unfolding roomFor
+scratch-length config room area ready = ap (λ (n : ℕ). areaLength n) (sym (ready .records))
+
+-- a copy of the whole area
+pub copied : (area next : List ℕ) → length area ≡ length next → splice next 0 (part area 0 (length next)) ≡ area
+copied area next e =
+    ap (splice next 0) (part-whole area (length next) e) ∙ splice-whole next area e
+
+-- the effect on a copy is the effect on the area
+pub followed : (config : Config) (op : Operation) (room : ℕ) (area next : List ℕ) {s t : List ℕ}
+    → length next ≡ areaLength room → Fit room op area (replicate answerBytes 0)
+    → s ≡ splice next 0 (part area 0 (length next)) → t ≡ layout (applied config op (view room s))
+    → t ≡ layout (applied config op (view room area))
+followed config op room area next long f e h =
+    h ∙ ap (λ (x : List ℕ). layout (applied config op (view room x)))
+    (e ∙ copied area next (f .area ∙ sym long))

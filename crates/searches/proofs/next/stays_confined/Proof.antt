@@ -1,0 +1,56 @@
+-- `searches::next::stays_confined` meets its contract: a device acts, nothing is stored, or the state that would follow
+-- is searched. Assumes nothing.
+use borrow.Author.Tests.{not-true, not-false}
+use mathlib.Core.Path.{_∙_, sym, refl}
+use borrow.Author.Needs.{needs}
+use Rattle.searches.proofs.Readying
+use Rattle.searches.proofs.Asking
+use Rattle.searches.proofs.next.stays_confined.Statement.{statement}
+use Rattle.searches.proofs.next.stays_confined.Tie as tie
+
+is-by-device-requires : tie.Need-is-by-device-requires
+is-by-device-requires c κs = search needs
+
+returns : tie.Need-returns
+returns c = Asking.q19-device _ _ _ _ _ (sym (c .before .is-by-device .ensures) ∙ c .if1 .taken)
+
+is-storing-requires : tie.Need-is-storing-requires
+is-storing-requires c κs = search needs
+
+returns-2 : tie.Need-returns-2
+returns-2 c = Asking.q19-free _ _ _ _ _ (sym (c .before .is-storing .ensures) ∙ not-true _ (c .if2 .taken))
+
+slice-aggregate-is-confined-after : tie.Need-slice-aggregate-is-confined-after
+slice-aggregate-is-confined-after c = search needs
+
+is-confined-after-requires : tie.Need-is-confined-after-requires
+is-confined-after-requires c κs =
+    let c₁ = c .before in let a = c₁ .before .before .before .before .before in (
+      Readying.scratch-length _ _ _ (a .pre .0),
+      (
+        Readying.spare-fit _ _ _ _ _ _ (a .pre .0) (a .pre .1),
+        Readying.next-searchable _ _ _ _ _ _ (a .pre .0) (a .pre .1) _ refl
+            (sym (c₁ .before .is-storing .ensures) ∙ not-false _ (c₁ .if2 .left)),
+      ),
+    )
+
+returns-3 : tie.Need-returns-3
+returns-3 c =
+    let c₁ = c .before .before .before in let c₂ = c₁ .before in
+    let a = c₂ .before .before .before .before in
+    Asking.q19-next _ _ _ _ _ _ (a .pre .0) (a .pre .1)
+    (sym (c₂ .is-storing .ensures) ∙ not-false _ (c₁ .if2 .left))
+    (sym (c₂ .before .before .is-by-device .ensures) ∙ c₂ .before .if1 .left) refl
+    (c .before .is-confined-after .ensures .0)
+
+pub stays-confined-spec : {M : Type 1} → statement M
+stays-confined-spec =
+    tie.close
+    (tie.spec
+    is-by-device-requires
+    returns
+    is-storing-requires
+    returns-2
+    slice-aggregate-is-confined-after
+    is-confined-after-requires
+    returns-3)
