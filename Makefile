@@ -68,6 +68,7 @@ check: $(library)
 	python3 tests/line_l.py
 	python3 tests/edits.py
 	python3 tests/times.py --check
+	bash tests/gate.sh
 	python3 tests/index.py --check
 	python3 tests/named.py
 	bash tests/install.sh

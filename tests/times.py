@@ -15,28 +15,29 @@ import sys
 sys.dont_write_bytecode = True
 from made import ROOT, Fault, stored, write  # noqa: E402
 
-PAGE, PART, CORES, UNKNOWN = "docs/DESIGN.md", "times", 2, "?"
+PAGE, PART, UNKNOWN = "docs/DESIGN.md", "times", "?"
 CRATES = ["Crate", "Lines of code", "of specs and proofs", "Check, s", "Edits", "all of these, s", "the longest, s"]
 PARTS = ["Part of the gate", "By the clock, s"]
-CHECKS, EDITS, RUNS = "`rt ci`: crates", "`rt ci`: edits", "`rt ci`: programs"
+WHOLE = "the whole gate"
 LINES = {
     "crates": re.compile(r"^rt: (\w+) proved \((\d+) s\)$", re.MULTILINE),
     "edits": re.compile(r"^rt: must-fail (\w+/\w+): refused, as it must be \((?:.*; )?(\d+) s\)$", re.MULTILINE),
-    "runs": re.compile(r"^rt: (\w+) ran.* has \((\d+) s\)$", re.MULTILINE),
     "parts": re.compile(r"^part: (.+) \((\d+) s\)$", re.MULTILINE),
+    "whole": re.compile(r"^(gate): (\d+) s$", re.MULTILINE),
 }
+# What the log calls the part that is rt ci.
+VERDICT = ("verdict", "rt ci")
 BROKEN = re.compile(r"^rt: .*(?:NOT PROVED|NOT REFUSED|BAD EDIT|FAILED).*$", re.MULTILINE)
 
 
 def listed():
-    """The crates with those of the repository that each depends on, as crates.txt has them."""
-    rows = re.findall(r"^(\w+):(.*)$", (ROOT / "crates.txt").read_text(encoding="utf-8"), re.MULTILINE)
-    return {name: [other for other in depends.split() if other in dict(rows)] for name, depends in rows}
+    """The crates, in the order of crates.txt."""
+    return re.findall(r"^(\w+):", (ROOT / "crates.txt").read_text(encoding="utf-8"), re.MULTILINE)
 
 
 def parts_of_gate():
-    """What .ci/run runs before the toolchain's verdict, as its log names it."""
-    return re.findall(r"^part (.+)$", (ROOT / ".ci" / "run").read_text(encoding="utf-8"), re.MULTILINE)
+    """What .ci/run runs, as its log names it."""
+    return re.findall(r"^\(?part ([^)\n]+)", (ROOT / ".ci" / "run").read_text(encoding="utf-8"), re.MULTILINE)
 
 
 def edits_of(crate):
@@ -49,7 +50,7 @@ def lines_of(crate, *folders):
 
 
 def told(log):
-    """The seconds of each crate, edit, program and part, in the log's order."""
+    """The seconds of each crate, edit and part, and of the whole, in the log's order."""
     broken = BROKEN.search(log)
     if broken:
         raise Fault(f"the log is of a gate that failed: {broken[0]}")
@@ -62,20 +63,6 @@ def told(log):
     return found
 
 
-def clock(seconds, level):
-    """How long rt takes: as many at a time as there are cores, all of one level, and it waits for the slowest."""
-    whole, batch = 0, []
-    for name in sorted(seconds, key=level):
-        if len(batch) == CORES or batch and level(batch[-1]) != level(name):
-            whole, batch = whole + max(seconds[one] for one in batch), []
-        batch.append(name)
-    return whole + max((seconds[one] for one in batch), default=0)
-
-
-def depth(crate, crates):
-    return 1 + max((depth(other, crates) for other in crates[crate]), default=0)
-
-
 def page_rows():
     """The numbers that the page has, by the first cell of their row; None for one that it does not know."""
     rows = [[cell.strip() for cell in row.strip("|").split("|")] for row in stored(PAGE, PART)]
@@ -86,7 +73,8 @@ def page_rows():
 def crate_row(crate, found, old):
     """A crate's numbers: lines as they are, seconds as the log has them or else as the page has them."""
     names = edits_of(crate)
-    check, *edits = old[2:] or [None, len(names), None, None]
+    check, count, *sums = old[2:] or [None, len(names), None, None]
+    edits = [len(names), *(sums if count == len(names) else [None, None])]
     if set(names) <= set(found["edits"]):
         seconds = [found["edits"][name] for name in names]
         edits = [len(names), sum(seconds), max(seconds, default=0)]
@@ -94,15 +82,9 @@ def crate_row(crate, found, old):
 
 
 def part_rows(found):
-    """The parts of the gate by the clock, as far as the log tells them in full."""
-    crates = listed()
-    edits = [name for crate in crates for name in edits_of(crate)]
-    made = {f"`{part}`": found["parts"].get(part) for part in parts_of_gate()}
-    whole = set(crates) <= set(found["crates"])
-    made[CHECKS] = clock(found["crates"], lambda name: depth(name, crates)) if whole else None
-    made[EDITS] = clock(found["edits"], lambda name: 0) if set(edits) <= set(found["edits"]) else None
-    made[RUNS] = sum(found["runs"].values()) if found["runs"] else None
-    return made
+    """The parts of the gate by the clock, and the whole, as far as the log tells them."""
+    made = {f"`{part.replace(*VERDICT)}`": found["parts"].get(part) for part in parts_of_gate()}
+    return {**made, WHOLE: found["whole"].get("gate")}
 
 
 def total(columns):
@@ -122,7 +104,6 @@ def made(found):
     crates.append(["all", [*total(sums), None if None in longest else max(longest)]])
     parts = [[part, [old.get(part, [None])[0] if seconds is None else seconds]]
              for part, seconds in part_rows(found).items()]
-    parts.append(["the whole gate", total(zip(*(row for _, row in parts)))])
     return ["", *table(CRATES, crates), "", *table(PARTS, parts), ""]
 
 

@@ -4,7 +4,7 @@ set -euo pipefail
 cd "$(dirname "$0")/../.."
 out=$(mktemp -d)
 trap 'rm -rf "$out"' EXIT
-rt staticlib gate > "$out/log" 2>&1 || { tail -n 20 "$out/log"; exit 1; }
+make -s lib
 flags="-std=c11 -O2 -Wall -Wextra -Werror -Iinclude"
 gcc $flags -o "$out/plain" examples/controller/main.c target/staticlib/libgate.a
 gcc $flags -g -fsanitize=address,undefined -o "$out/checked" examples/controller/main.c target/staticlib/libgate.a
