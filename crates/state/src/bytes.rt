@@ -16,7 +16,7 @@ fn greater(a: u8, b: u8) -> u8
 
 // The highest of the bytes from place `from` up to `to`; 0 if there is none. No byte ends the loop, so that it takes
 // many at a time.
-pub fn highest(s: &[u8], from: usize, to: usize) -> u8
+pub(crate) fn highest(s: &[u8], from: usize, to: usize) -> u8
     requires { ⌜ (from ≤ to) × (to ≤ length (now s)) ⌝ }
     ensures { λ r. ⌜ Highest (now (s .entry)) from to r ⌝ }
 {
