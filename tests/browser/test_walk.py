@@ -237,8 +237,11 @@ class Walk(unittest.TestCase):
             self.assertTrue(self.browser.value("document.getElementById('fold').checked"))
 
     def title(self):
-        """The page's, once it is there."""
-        return self.browser.value("document.title") if self.browser.reached().endswith("complete") else ""
+        """The page's, once it is there. Both are asked at once: between two questions the page may change."""
+        try:
+            return self.browser.value("document.readyState === 'complete' ? document.title : ''")
+        except RuntimeError:
+            return ""
 
     def test_print(self):
         """All moves, what the refused ones failed on, their chains, and the fingerprint are on the paper."""
