@@ -1,6 +1,6 @@
 -- Document 01, 'Line file' and questions 1 to 6: the configuration that a file tells, or the first refusal.
 use Prim.Native.Nat.{ℕ, zero, suc, _+_}
-use mathlib.Core.List.{List}
+use mathlib.Core.List.{List, [], _∷_}
 use mathlib.Core.Bool.{Bool, true, false, not, cond, _&&_, _||_}
 use lib.ListN.{length, getD, set}
 use lib.Dec.{leb, eqb}
@@ -96,15 +96,37 @@ turns f (suc n) i at t =
     let p = f (i + 1) at t in
     onReading (stop (p .table)) (p .reading) (λ next. turns f n (i + 1) next (p .table))
 
+-- document 01, 'Line file': the numbers of a row in order, each from `low` to `high`; what follows may depend on it. A
+-- number that is absent from files of an edition is 0
+pub data Row : Type 0 where
+  done : Row
+  field : ℕ → ℕ → (ℕ → Row) → Row
+  absent : Row → Row
+
+-- the numbers of a row, read from a place on
+abbrev pub readRow : {R : Type 0} → List ℕ → ℕ → Row → (ℕ → R) → (List ℕ → ℕ → R) → R
+readRow s at done stop k = k [] at
+readRow s at (field low high rest) stop k =
+    onField stop (fieldAt s at low high) λ v a. readRow s a (rest v) stop (λ vs next. k (v ∷ vs) next)
+readRow s at (absent rest) stop k = readRow s at rest stop (λ vs next. k (0 ∷ vs) next)
+
 -- document 01, 'Line file': edition, 1; drivers D, devices V, objects N, values K
+abbrev pub countsRow : Row
+countsRow =
+    field 1 1 λ edition.
+    field 0 mostDrivers λ d.
+    field 0 mostDevices λ v.
+    field 0 mostObjects λ n.
+    field 0 mostValues λ k.
+    done
+
+abbrev pub countsOf : List ℕ → Counts
+countsOf vs = record { drivers = getD vs 1 0; devices = getD vs 2 0; objects = getD vs 3 0; values = getD vs 4 0 }
+
 unfoldable pub countsAt : List ℕ → Head
 countsAt s =
-    onField Stopped (fieldAt s 0 1 1) λ edition a.
-    onField Stopped (fieldAt s a 0 mostDrivers) λ d b.
-    onField Stopped (fieldAt s b 0 mostDevices) λ v c.
-    onField Stopped (fieldAt s c 0 mostObjects) λ n e.
-    onField Stopped (fieldAt s e 0 mostValues) λ k next.
-    Counted (record { drivers = d; devices = v; objects = n; values = k }) next
+    readRow s 0 countsRow Stopped λ vs next.
+    Counted (countsOf vs) next
 
 -- document 01, 'Line file': an owner's number by its class: 0, 1 to D, or 1 to V
 unfoldable pub ownerLeast : ℕ → ℕ
@@ -118,21 +140,33 @@ setObject t o kind class owner =
     record { kind = set (t .kind) o kind; class = set (t .class) o class; owner = set (t .owner) o owner }
 
 -- document 01, 'Line file': object o has kind; owner class; owner number
+abbrev pub objectRow : Counts → Row
+objectRow counts =
+    field 1 mostKind λ kind.
+    field 0 mostClass λ class.
+    field (ownerLeast class) (ownerMost counts class) λ owner.
+    done
+
+abbrev pub objectOf : Objects → ℕ → List ℕ → Objects
+objectOf t o vs = setObject t o (getD vs 0 0) (getD vs 1 0) (getD vs 2 0)
+
 unfoldable pub object : List ℕ → Counts → ℕ → ℕ → Objects → Progress Objects
-object s counts o at t =
-    onField (stop t) (fieldAt s at 1 mostKind) λ kind a.
-    onField (stop t) (fieldAt s a 0 mostClass) λ class b.
-    onField (stop t) (fieldAt s b (ownerLeast class) (ownerMost counts class)) λ owner next.
-    read (setObject t o kind class owner) next
+object s counts o at t = readRow s at (objectRow counts) (stop t) λ vs next. read (objectOf t o vs) next
 
 unfoldable pub setDevice : Devices → ℕ → ℕ → Devices
 setDevice t v w = record { hardcoded = set (t .hardcoded) v w }
 
 -- document 01, 'Line file': device v has the value number 0 to K of its hardcoded descriptor
+abbrev pub deviceRow : Counts → Row
+deviceRow counts =
+    field 0 (counts .values) λ w.
+    done
+
+abbrev pub deviceOf : Devices → ℕ → List ℕ → Devices
+deviceOf t v vs = setDevice t v (getD vs 0 0)
+
 unfoldable pub device : List ℕ → Counts → ℕ → ℕ → Devices → Progress Devices
-device s counts v at t =
-    onField (stop t) (fieldAt s at 0 (counts .values)) λ w next.
-    read (setDevice t v w) next
+device s counts v at t = readRow s at (deviceRow counts) (stop t) λ vs next. read (deviceOf t v vs) next
 
 -- document 01, 'Line file': a stored value must be 0 unless the object is of kind 1 and the mode is 2 or 3; `kinds` is
 -- the column of kinds
@@ -144,21 +178,32 @@ setEntry t place o mode w =
     record { count = t .count; entries = set (set (set (t .entries) place o) (place + 1) mode) (place + 2) w }
 
 -- document 01, 'Line file': entry j, from 1, of value v has object 1 to N, mode 1 to 3, stored value
+abbrev pub entryRow : Counts → List ℕ → Row
+entryRow counts kinds =
+    field 1 (counts .objects) λ o.
+    field 1 mostMode λ mode.
+    field 0 (storedMost counts kinds o mode) λ w.
+    done
+
+abbrev pub entryOf : ℕ → Values → ℕ → List ℕ → Values
+entryOf v t j vs = setEntry t (entryPlace v j) (getD vs 0 0) (getD vs 1 0) (getD vs 2 0)
+
 unfoldable pub entry : List ℕ → Counts → List ℕ → ℕ → ℕ → ℕ → Values → Progress Values
-entry s counts kinds v j at t =
-    onField (stop t) (fieldAt s at 1 (counts .objects)) λ o a.
-    onField (stop t) (fieldAt s a 1 mostMode) λ mode b.
-    onField (stop t) (fieldAt s b 0 (storedMost counts kinds o mode)) λ w next.
-    read (setEntry t (entryPlace v j) o mode w) next
+entry s counts kinds v j at t = readRow s at (entryRow counts kinds) (stop t) λ vs next. read (entryOf v t j vs) next
 
 unfoldable pub setCount : Values → ℕ → ℕ → Values
 setCount t v n = record { count = set (t .count) v n; entries = t .entries }
 
 -- document 01, 'Line file': value v has entry count 0 to 6; then each entry
+abbrev pub valueRow : Row
+valueRow =
+    field 0 mostEntries λ n.
+    done
+
 unfoldable pub value : List ℕ → Counts → List ℕ → ℕ → ℕ → Values → Progress Values
 value s counts kinds v at t =
-    onField (stop t) (fieldAt s at 0 mostEntries) λ n next.
-    turns (entry s counts kinds v) n 0 next (setCount t v n)
+    readRow s at valueRow (stop t) λ vs next. turns (entry s counts kinds v) (getD vs 0 0) 0 next (setCount t v
+    (getD vs 0 0))
 
 -- document 01, 'Line file': objects 1 to N, devices 1 to V, values 1 to K, in order
 unfoldable pub objectsAt : List ℕ → Counts → ℕ → Progress Objects

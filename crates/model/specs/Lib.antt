@@ -2,6 +2,7 @@ pub mod Base
 pub mod Number
 pub mod Config
 pub mod ConfigFile
+pub mod ConfigWrite
 pub mod State
 pub mod Closure
 pub mod Operation
@@ -11,6 +12,7 @@ pub mod Gate
 pub mod Trace
 pub mod Separation
 pub mod Office
+pub mod Rewriting
 pub mod Programs
 pub mod Examples
 pub mod NumberMeans

@@ -1,6 +1,6 @@
 -- Document 01, 'Line file' and questions 1 and 2: numbers in groups of seven bits, lowest group first; every byte but
 -- a number's last has 128 added; shortest form only.
-use Prim.Native.Nat.{ℕ, zero, suc, _+_, _*_, _%_}
+use Prim.Native.Nat.{ℕ, zero, suc, _+_, _*_, _/_, _%_}
 use mathlib.Core.List.{List, [], _∷_}
 use mathlib.Core.Bool.{Bool, cond, _&&_, _||_}
 use lib.ListN.{length, getD, drop}
@@ -46,3 +46,11 @@ headAt at t = cond (ltb (lead t) (length t)) (formAt at t (lead t)) (Bad Cut)
 -- the number at a place of s
 unfoldable pub numberAt : List ℕ → ℕ → Num
 numberAt s at = headAt at (drop at s)
+
+-- document 01, 'Line file' and request N1: the shortest form of a number, in groups of seven bits, the lowest first;
+-- the last byte is below 128. A number is at most the largest, so that there are at most three
+unfoldable pub bytesOf : ℕ → List ℕ
+bytesOf v =
+    cond (ltb v 128) (v ∷ [])
+    (cond (ltb v 16384) ((v % 128 + 128) ∷ (v / 128) ∷ [])
+    ((v % 128 + 128) ∷ (v / 128 % 128 + 128) ∷ (v / 16384) ∷ []))

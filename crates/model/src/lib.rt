@@ -133,6 +133,14 @@ pub struct Loaded {
     pub config: Config,
 }
 
+// What became of a configuration that was to be written: the length of its file; the question that it answers with no;
+// or the length that the area would need.
+pub enum Written {
+    Length(usize),
+    Refused(u8),
+    Short(usize),
+}
+
 // An operation taken apart (document 01: operation record). Item i, from 0, has its object, its second number (a value
 // or a destination), its form, and its sixteen bytes of raw from place 16 * i.
 pub struct Operation {

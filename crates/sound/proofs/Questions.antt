@@ -38,6 +38,7 @@ use Rattle.model.specs.Config.{
 use Rattle.model.specs.ConfigFile.{howMany, paired, ownEntry, restrained}
 use Rattle.model.specs.declared.Counts.{Counts}
 use Rattle.model.specs.declared.Config.{Config}
+use Rattle.model.proofs.SameFile.{every-same, many-same}
 use Rattle.sound.specs.Sound.{
   everyTo,
   tally,
@@ -200,19 +201,6 @@ module _ (p : Entry → Bool) (table : List ℕ) (k i at : ℕ) where
   from-end h =
       let q : k - i ≡ 0 = omega arith in
       rw q
-
--- tests that agree on 1 to n
-pub every-same : (n : ℕ) (p q : ℕ → Bool) → ((i : ℕ) → 1 ≤ i → i ≤ n → p i ≡ q i) → every n p ≡ every n q
-every-same zero p q h = refl
-every-same (suc n) p q h =
-    let e : every n p ≡ every n q = every-same n p q (λ i low high. h i low (omega arith)) in
-    rw (e, h (suc n) (omega arith) (omega arith))
-
-pub many-same : (n : ℕ) (p q : ℕ → Bool) → ((i : ℕ) → 1 ≤ i → i ≤ n → p i ≡ q i) → howMany n p ≡ howMany n q
-many-same zero p q h = refl
-many-same (suc n) p q h =
-    let e : howMany n p ≡ howMany n q = many-same n p q (λ i low high. h i low (omega arith)) in
-    rw (e, h (suc n) (omega arith) (omega arith))
 
 -- question 5 is the model's
 module _ (config : Config) where

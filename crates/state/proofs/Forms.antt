@@ -29,6 +29,7 @@ use Rattle.model.specs.State.{
 use Rattle.model.specs.declared.Counts.{Counts}
 use Rattle.model.specs.declared.Config.{Config}
 use Rattle.model.proofs.Lists.{and-l, and-r, every-at}
+use Rattle.model.proofs.SameFile.{every-same}
 use Rattle.model.proofs.StateBytes.{status-byte, driver-byte, device-byte}
 use Rattle.state.specs.Bytes.{AtMost, Highest}
 use Rattle.state.specs.Change.{objectsLent, lent}
@@ -209,26 +210,21 @@ housed room s drivers devices u v f x g y =
     )
 
 -- the whole
-every-same : (p q : ℕ → Bool) (k : ℕ) → ((n : ℕ) → 1 ≤ n → n ≤ k → p n ≡ q n) → every k p ≡ every k q
-every-same p q zero h = refl
-every-same p q (suc k) h =
-    λ i. every-same p q k (λ n l u. h n l (omega arith)) i && h (suc k) (omega arith) (omega arith) i
-
 module _ (room : ℕ) (s : List ℕ) (many : ℕ) where
   drivers-same : assignmentsRight (view room s) s (driversFrom - 1) many mostDrivers
       ≡ every mostDrivers (λ d. rightAssignment (view room s) many d (driverIn (view room s) d))
   unfolding assignmentsRight
   drivers-same =
-      every-same (λ d. rightAssignment (view room s) many d (getD s (driverPlace d) 0))
-      (λ d. rightAssignment (view room s) many d (driverIn (view room s) d)) mostDrivers
+      every-same mostDrivers (λ d. rightAssignment (view room s) many d (getD s (driverPlace d) 0))
+      (λ d. rightAssignment (view room s) many d (driverIn (view room s) d))
       (λ d l u. ap (λ (p : ℕ). rightAssignment (view room s) many d p) (sym (driver-byte room s d l u)))
 
   devices-same : assignmentsRight (view room s) s (devicesFrom - 1) many mostDevices
       ≡ every mostDevices (λ c. rightAssignment (view room s) many c (deviceIn (view room s) c))
   unfolding assignmentsRight
   devices-same =
-      every-same (λ c. rightAssignment (view room s) many c (getD s (devicePlace c) 0))
-      (λ c. rightAssignment (view room s) many c (deviceIn (view room s) c)) mostDevices
+      every-same mostDevices (λ c. rightAssignment (view room s) many c (getD s (devicePlace c) 0))
+      (λ c. rightAssignment (view room s) many c (deviceIn (view room s) c))
       (λ c l u. ap (λ (p : ℕ). rightAssignment (view room s) many c p) (sym (device-byte room s c l u)))
 
 module _ (room : ℕ) (counts : Counts) (kind class owner hardcoded s : List ℕ) (t : Bool)
