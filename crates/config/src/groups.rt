@@ -35,7 +35,7 @@ fn stopped(f: Field) -> Head
     Head::Stopped(field_question(f))
 }
 
-pub fn refused(f: Field) -> Reading
+pub(crate) fn refused(f: Field) -> Reading
     ensures { λ r. ⌜ r ≡ Refused (fieldQuestion f) ⌝ }
 {
     Reading::Refused(field_question(f))
@@ -89,7 +89,7 @@ fn counts_fit(edition: u8, drivers: u8, devices: u8, objects: u8, values: u8) ->
 }
 
 // Edition and counts: as most files have them, in five bytes; else field by field, which finds what is refused.
-pub fn read_counts(s: &[u8]) -> Head
+pub(crate) fn read_counts(s: &[u8]) -> Head
     ensures { λ r. ⌜ r ≡ countsAt (now (s .entry)) ⌝ }
 {
     if 5 <= s.len() {
@@ -183,7 +183,7 @@ fn is_owner(counts: Counts, c: u8, w: u8) -> bool
 }
 
 // The bytes of an object's kind, class and owner are numbers in their ranges.
-fn is_object(counts: Counts, k: u8, c: u8, w: u8) -> bool
+pub fn is_object(counts: Counts, k: u8, c: u8, w: u8) -> bool
     ensures { λ r. ⌜ r ≡ isObject counts k c w ⌝ }
 {
     (1 <= k) & (k <= MOST_KIND) & (c <= MOST_CLASS) & is_owner(counts, c, w)
@@ -222,7 +222,7 @@ fn read_object(
 }
 
 // Objects 1 to N.
-pub fn read_objects(
+pub(crate) fn read_objects(
     s: &[u8],
     counts: Counts,
     at: usize,
@@ -273,7 +273,7 @@ fn read_device(
 }
 
 // Devices 1 to V.
-pub fn read_devices(
+pub(crate) fn read_devices(
     s: &[u8],
     counts: Counts,
     at: usize,

@@ -1,8 +1,8 @@
 // The configuration file (document 01: line file) into the configuration, or the first refusal among questions 1 to 6.
 // Columns are local arrays, lent to the readers; the struct is made once, at the end.
 mod fields;
-mod groups;
-mod values;
+pub mod groups;
+pub mod values;
 
 ghost use mathlib.Core.Path.{_≡_};
 ghost use Rattle.model.specs.Config.{blank};

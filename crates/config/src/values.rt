@@ -83,7 +83,7 @@ fn names_object(counts: Counts, o: u8, mode: u8) -> bool
 }
 
 // The stored value of an entry is in its range. Every range has 0, so that the kind is looked up for others only.
-fn may_store(counts: Counts, kinds: &[u8; OBJECT_SLOTS], o: u8, mode: u8, w: u8) -> bool
+pub fn may_store(counts: Counts, kinds: &[u8; OBJECT_SLOTS], o: u8, mode: u8, w: u8) -> bool
     requires { ⌜ o ≤ mostObjects ⌝ }
     ensures { λ r. ⌜ r ≡ leb w (storedMost counts (now (kinds .entry)) o mode) ⌝ }
 {
@@ -187,7 +187,7 @@ fn read_value(
 }
 
 // Values 1 to K.
-pub fn read_values(
+pub(crate) fn read_values(
     s: &[u8],
     counts: Counts,
     kinds: &[u8; OBJECT_SLOTS],

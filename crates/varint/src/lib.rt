@@ -1,18 +1,25 @@
-// The number reader (document 01, 'Line file'; questions 1 and 2): canonical LEB128 in at most three bytes.
+// Numbers (document 01, 'Line file'; questions 1 and 2): canonical LEB128 in at most three bytes, read and written.
 ghost use mathlib.Core.Path.{_≡_};
 ghost use Prim.Native.Nat.{_+_, _<_, _≤_};
 ghost use lib.ListN.{length, drop};
-ghost use Rattle.model.specs.Number.{mostBytes, lead, valueOf, numberAt};
+ghost use Rattle.model.specs.Number.{mostNumber, mostBytes, lead, valueOf, numberAt, bytesOf};
 ghost use Rattle.model.specs.NumberMeans.{numMeans, meantAt};
+ghost use Rattle.page.specs.Page.{Placed};
 ghost use Rattle.varint.specs.Run.{fullRun};
 use model::Fault;
 use model::MOST_BYTES;
 use model::MOST_NUMBER;
 use model::Num;
 use model::wide;
+use page::lay;
 
 // How many bytes of a long run are tested at once.
 const RUN_BYTES: usize = 32;
+
+// What a group of seven bits counts up to, and two of them; 128 is added to every byte but the last.
+const GROUP: usize = 128;
+
+const TWO_GROUPS: usize = GROUP * GROUP;
 
 // A whole run of bytes from `at` on, none of them below 128. It has no way out in its midst, so that the bytes are
 // tested side by side.
@@ -134,4 +141,25 @@ pub fn decode(s: &[u8], at: usize) -> Num
         }
     }
     long_number(s, at)
+}
+
+// Puts down the shortest form of a number, as far as there is room, and answers the place after it. The place has the
+// same bound as the number, which is far beyond every file: so that no place after it is out of reach.
+pub fn encode(out: &mut [u8], at: usize, v: usize) -> usize
+    requires { ⌜ v ≤ mostNumber ⌝ }
+    requires { ⌜ at ≤ mostNumber ⌝ }
+    ensures { λ r. ⌜ Placed (bytesOf v) at (now (out .entry)) r (now (out .exit)) ⌝ }
+{
+    if v < GROUP {
+        lay(out, at, v as u8);
+        return at + 1;
+    }
+    lay(out, at, (v % GROUP + GROUP) as u8);
+    if v < TWO_GROUPS {
+        lay(out, at + 1, (v / GROUP) as u8);
+        return at + 2;
+    }
+    lay(out, at + 1, (v / GROUP % GROUP + GROUP) as u8);
+    lay(out, at + 2, (v / TWO_GROUPS) as u8);
+    at + 3
 }

@@ -1,0 +1,30 @@
+-- The bytes of a configuration's file by the columns that functions are lent. proofs/Putting has that they are the
+-- model's.
+use Prim.Native.Nat.{ℕ, _+_}
+use mathlib.Core.List.{List, _++_}
+use lib.ListN.{getD}
+use Rattle.model.specs.Number.{bytesOf}
+use Rattle.model.specs.Config.{entryPlace}
+use Rattle.model.specs.ConfigWrite.{rowsFrom}
+
+-- three numbers, one after the other
+unfoldable pub three : ℕ → ℕ → ℕ → List ℕ
+three a b c = bytesOf a ++ (bytesOf b ++ bytesOf c)
+
+-- kind, class and owner of object o
+unfoldable pub objectBytes : List ℕ → List ℕ → List ℕ → ℕ → List ℕ
+objectBytes kind class owner o = three (getD kind o 0) (getD class o 0) (getD owner o 0)
+
+-- the value number of device c
+unfoldable pub deviceBytes : List ℕ → ℕ → List ℕ
+deviceBytes hardcoded c = bytesOf (getD hardcoded c 0)
+
+-- entry j, from 1, of value v
+unfoldable pub entryBytesOf : List ℕ → ℕ → ℕ → List ℕ
+entryBytesOf entries v j =
+    three (getD entries (entryPlace v j) 0) (getD entries (entryPlace v j + 1) 0) (getD entries (entryPlace v j + 2) 0)
+
+-- value v: its entry count, and then its entries
+unfoldable pub valueBytes : List ℕ → List ℕ → ℕ → List ℕ
+valueBytes count entries v =
+    bytesOf (getD count v 0) ++ rowsFrom (entryBytesOf entries v) (getD count v 0) 0
