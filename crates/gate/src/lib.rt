@@ -3,7 +3,9 @@ mod call;
 
 ghost use mathlib.Core.Path.{_≡_};
 ghost use Rattle.model.specs.ConfigFile.{load};
+ghost use lib.ListN.{length};
 ghost use Rattle.model.specs.Programs.{Made, Operated};
+ghost use Rattle.model.specs.Rewriting.{coded, rewriteAnswer, rewriteArea};
 use model::MOST_OBJECTS;
 
 // Questions 1 to 6 of a configuration file: 0, or the number of the first that is answered with no.
@@ -46,4 +48,15 @@ pub extern "C" fn gate_operate(line: &[u8], state: &mut [u8], rec: &[u8], answer
         return loaded.answer as u32;
     }
     call::operate_on(loaded.config, MOST_OBJECTS as usize, state, rec, answer)
+}
+
+// Loads a file and writes it into the area lent (request N1). The answer has a kind: done with the length written,
+// refused with the question, 1 to 6, or too short with the length needed; the last two leave the area as it was.
+#[no_mangle]
+pub extern "C" fn gate_rewrite(line: &[u8], out: &mut [u8]) -> u64
+    ensures { λ r. ⌜ r ≡ coded (rewriteAnswer (now (line .entry)) (length (now (out .entry)))) ⌝ }
+    ensures { λ _. ⌜ now (out .exit) ≡ rewriteArea (now (line .entry)) (now (out .entry)) ⌝ }
+{
+    let w = writer::rewrite(line, out);
+    writer::code_of(w)
 }

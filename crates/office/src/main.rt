@@ -1,24 +1,11 @@
 // The office program: reads `line.bin` and `session.bin` in the folder that it is run in, and writes what the library
 // makes of them. A file that is absent or cannot be read counts as empty.
-ghost use Rattle.io.specs.Counts.{Counts};
+use files::read_file;
 use libc::STDOUT_FILENO;
 use report::MOST_FILE;
 use report::MOST_SESSION;
 use report::MOST_TEXT;
 use report::report_whole;
-
-// The bytes of a file at the start of buf, and how many there are. A file that is longer fills it.
-fn read_file(path: &[u8], buf: &mut [u8]) -> usize
-    ensures { λ r. ⌜ Counts r (now (buf .exit)) ⌝ }
-{
-    let file = os::open_read(path);
-    if file < 0 {
-        return 0;
-    }
-    let n = io::read_full(file, buf);
-    libc::close(file);
-    n
-}
 
 // One byte more than a file may have is read, so that `long` shows.
 fn main() {

@@ -1,3 +1,3 @@
-pub mod Laying
 pub mod Sessions
 pub mod Reporting
+pub mod Saving

@@ -1,8 +1,7 @@
 -- The whole text by its ways out: `long`, `line`, and the rows of a session.
 use Prim.Native.Nat.{ℕ, zero, suc, _≤_, _<_}
-use mathlib.Core.Path.{_≡_, refl, sym, ap, _∙_, subst}
-use mathlib.Core.List.{List, [], _∷_, _++_}
-use native.Mathlib.Nat.{not-suc-le-zero, le-of-suc-le-suc}
+use mathlib.Core.Path.{_≡_, refl, sym, _∙_, subst}
+use mathlib.Core.List.{List, _++_}
 use native.Mathlib.Omega.{arith}
 use lib.ListN.{length, drop}
 use lib.Seq.{length-take-le}
@@ -22,8 +21,8 @@ use Rattle.model.specs.Office.{
   reported,
 }
 use Rattle.model.proofs.OfficeLength.{reported-length}
-use Rattle.report.specs.Page.{laid, reaches, Put, Counts}
-use Rattle.report.proofs.Laying.{laid-nil, put-same}
+use Rattle.page.specs.Page.{reaches, Put, Counts}
+use Rattle.page.proofs.Laying.{laid-whole, put-same}
 
 module _ (file session : List ℕ) where
   judged : length file ≤ mostFile → length session ≤ mostSession
@@ -63,12 +62,6 @@ module _ (file session out : List ℕ) {r : ℕ} {out′ : List ℕ} where
           subst (λ (t : List ℕ). Put t 0 out r out′) (sym (judged file session l m ∙ rw (← e, z))) p
 
 -- ---- an area with room for every text
-laid-whole : (t out : List ℕ) → length t ≤ length out → laid t 0 out ≡ t ++ drop (length t) out
-unfolding laid
-laid-whole [] out h = laid-nil 0 out
-laid-whole (b ∷ t) [] h = absurd (not-suc-le-zero h)
-laid-whole (b ∷ t) (o ∷ out) h = ap (λ (r : List ℕ). b ∷ r) (laid-whole t out (le-of-suc-le-suc h))
-
 module _ (file session out : List ℕ) (room : length out ≡ mostText) {r : ℕ} {out′ : List ℕ}
     (p : Put (reported file session) 0 out r out′) where
   fits : length (reported file session) ≤ length out

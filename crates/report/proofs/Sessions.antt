@@ -29,8 +29,9 @@ use Rattle.model.specs.declared.Fault.{Fault}
 use Rattle.model.specs.declared.Num.{Num}
 use Rattle.model.specs.declared.Num.the-variants.{Got, Bad}
 use Rattle.model.proofs.OfficeLaws.{cutting-end, cutting-bad, cutting-short, cutting-next}
-use Rattle.report.specs.Page.{Put, Rows}
-use Rattle.report.proofs.Laying.{then, put-nil}
+use Rattle.page.specs.Page.{Put}
+use Rattle.report.specs.Rows.{Rows}
+use Rattle.page.proofs.Laying.{then, put-nil}
 
 -- ---- a row
 pub row-put : (at : ℕ) (out : List ℕ) (place n : ℕ) {p₁ p₂ p₃ r : ℕ} {out₁ out₂ out₃ out′ : List ℕ}

@@ -1,15 +1,15 @@
 // The office program's text, worked out over slices: a configuration file and a session in, rows out.
-mod page;
+pub mod rewriting;
 mod rows;
 
 ghost use mathlib.Core.Path.{_≡_};
 ghost use mathlib.Core.List.{_++_};
 ghost use lib.ListN.{length, drop};
-ghost use Rattle.model.specs.Office.{longRow, lineRow, judgedText, reported};
-ghost use Rattle.report.specs.Page.{Put, Counts};
+ghost use Rattle.model.specs.Office.{judgedText, reported};
+ghost use Rattle.page.specs.Page.{Put, Counts};
 use effect::ANSWER_BYTES;
-use page::put;
-use page::put_decimal;
+use page::put_line;
+use page::put_long;
 use rows::put_rows;
 use state::AREA_BYTES;
 
@@ -20,30 +20,6 @@ pub const MOST_SESSION: usize = 32768;
 
 // How long the text is at most: a row of nine bytes for each byte of a session, and `cut`.
 pub const MOST_TEXT: usize = 9 * MOST_SESSION + 4;
-
-// `long`: one of the files is too long.
-fn put_long(out: &mut [u8]) -> usize
-    ensures { λ r. ⌜ Put longRow 0 (now (out .entry)) r (now (out .exit)) ⌝ }
-{
-    let l = put(out, 0, b'l');
-    let o = put(out, l, b'o');
-    let n = put(out, o, b'n');
-    let g = put(out, n, b'g');
-    put(out, g, b'\n')
-}
-
-// `line` and the number of the question that refused the file.
-fn put_line(out: &mut [u8], refusal: u32) -> usize
-    ensures { λ r. ⌜ Put (lineRow refusal) 0 (now (out .entry)) r (now (out .exit)) ⌝ }
-{
-    let l = put(out, 0, b'l');
-    let i = put(out, l, b'i');
-    let n = put(out, i, b'n');
-    let e = put(out, n, b'e');
-    let s = put(out, e, b' ');
-    let d = put_decimal(out, s, refusal as usize);
-    put(out, d, b'\n')
-}
 
 // The rows of a session from the fresh state of an accepted file on.
 fn put_session(line: &[u8], session: &[u8], out: &mut [u8]) -> usize

@@ -2,10 +2,11 @@
 ghost use mathlib.Core.Path.{_≡_};
 ghost use Rattle.model.specs.Gate.{operate};
 ghost use Rattle.model.specs.Office.{row, cutRow, cutting};
-ghost use Rattle.report.specs.Page.{Put, Rows};
-use crate::page::put;
-use crate::page::put_decimal;
+ghost use Rattle.page.specs.Page.{Put};
+ghost use Rattle.report.specs.Rows.{Rows};
 use model::Num;
+use page::put;
+use page::put_decimal;
 
 // A row: the record's place, a space, the answer.
 fn put_row(out: &mut [u8], at: usize, place: usize, n: u32) -> usize

@@ -1,6 +1,6 @@
 -- `report::rows::put_cut` meets its contract: byte after byte. Assumes nothing.
 use mathlib.Core.List.{[], _∷_}
-use Rattle.report.proofs.Laying.{then}
+use Rattle.page.proofs.Laying.{then}
 use borrow.Author.Needs.{needs}
 use Rattle.report.proofs.rows.put_cut.Statement.{statement}
 use Rattle.report.proofs.rows.put_cut.Tie as tie

@@ -1,10 +1,8 @@
 use mathlib.Core.Path.{_∙_}
-use Rattle.report.proofs.Laying.{put-within}
-use Rattle.report.proofs.Laying.{put-within}
 -- `report::rows::put_rows` meets its contract: what is left of the session completes the text. Assumes nothing.
 use Rattle.report.proofs.Sessions.{stop-within}
 use borrow.Rule.Slice.PartAt.{part-to-end}
-use Rattle.report.proofs.Laying.{put-within}
+use Rattle.page.proofs.Laying.{put-within}
 use Rattle.model.proofs.OfficeLaws.{number-within}
 use native.Mathlib.Omega.{arith}
 use mathlib.Core.Path.{_≡_}
