@@ -4,10 +4,11 @@
     tests/vectors.py            write crates/vectors/stdin, stdout and cases.txt
     tests/vectors.py --check    fail if what is stored differs
 
-The cases are made here and judged elsewhere: answers and checksums are the reference's, by its program `vectors`. A
-named case states its answer, and if the reference gives another, nothing is written and the check fails. A case is a
-byte for what is called, its length in two bytes, lower byte first, and its bytes; its row is its place from 1, the
-answer, and a checksum of what the call left (0 where it leaves nothing).
+The cases are made here (those of the writer of files in vectors_write.py) and judged elsewhere: answers and checksums
+are the reference's, by its program `vectors`. A named case states its answer, and if the reference gives another,
+nothing is written and the check fails. A case is a byte for what is called, its length in two bytes, lower byte first,
+and its bytes; its row is its place from 1, the answer, and a checksum of what the call left (0 where it leaves
+nothing).
 """
 import os
 import pathlib
@@ -15,12 +16,15 @@ import random
 import subprocess
 import sys
 
+import vectors_write
 from layout import (AREA, CONTENT, DEVICES_FROM, DRIVERS_FROM, MOST_DEVICES, MOST_DRIVERS, MOST_ENTRIES, MOST_ITEMS,
                     MOST_OBJECTS, MOST_VALUES, record_at, row, two)
 
 TOP = pathlib.Path(__file__).resolve().parent.parent
 HOME = TOP / "crates" / "vectors"
-LOAD, FRESH, FORMED, OPERATION, FRESH_SHORT, FRESH_LONG = 1, 2, 3, 4, 5, 6
+LOAD, FRESH, FORMED, OPERATION, FRESH_SHORT, FRESH_LONG, WRITE = 1, 2, 3, 4, 5, 6, 7
+# What the program `vectors` takes in.
+MOST_INPUT = 131072
 
 
 # Document 01's file L, whose numbers have one byte each, by groups.
@@ -254,6 +258,9 @@ def cases():
         yield case(label, FORMED, bytes([len(L)]) + row(L) + patches, stated)
     for label, record, stated in named_records():
         yield case(label, OPERATION, record, stated)
+    # An area's length, and a configuration in memory without the zeros at its end.
+    for label, length, memory, stated in vectors_write.cases(L, full_size()):
+        yield case(label, WRITE, two(length) + bytes(memory).rstrip(b"\0"), stated)
 
 
 def reference_program(name):
@@ -274,6 +281,8 @@ def files():
     """The three files, by name; ends the program if the reference does not answer what a named case states."""
     made = list(cases())
     stdin = b"".join(data for _, data, _ in made)
+    if len(stdin) > MOST_INPUT:
+        sys.exit(f"the cases have {len(stdin)} bytes, and the program takes {MOST_INPUT}")
     stdout = judged(stdin)
     rows = [[int(word) for word in line.split()] for line in stdout.decode().splitlines()]
     if [place for place, _, _ in rows] != list(range(1, len(made) + 1)):

@@ -2,6 +2,7 @@
 ghost use mathlib.Core.Path.{_≡_};
 ghost use Prim.Native.Nat.{_+_, _*_, _<_};
 ghost use lib.ListN.{length};
+use crate::memory::judge_write;
 use model::MOST_ITEMS;
 use model::MOST_OBJECTS;
 use model::Operation;
@@ -9,7 +10,7 @@ use state::AREA_BYTES;
 use state::bytes::wide_word;
 
 // What a case calls: the load check; making a fresh state in an area of the right length, of a byte less and of a byte
-// more; question 9; question 10.
+// more; question 9; question 10; the writer on a configuration in memory.
 const LOAD: u8 = 1;
 
 const FRESH: u8 = 2;
@@ -22,16 +23,18 @@ const FORMED: u8 = 3;
 
 const OPERATION: u8 = 4;
 
+const WRITE: u8 = 7;
+
 // The answer for a case that is none.
-const UNKNOWN: u32 = 255;
+pub(crate) const UNKNOWN: u64 = 255;
 
 // What an area holds before a fresh state is made in it.
-const OLD_BYTE: u8 = 170;
+pub(crate) const OLD_BYTE: u8 = 170;
 
 const PATCH_BYTES: usize = 3;
 
 pub(crate) struct Row {
-    pub answer: u32,
+    pub answer: u64,
     pub left: u64,
 }
 
@@ -53,7 +56,7 @@ fn mix(sum: u64, x: u64) -> u64
     ((sum % 65521) * 31 + x % 4294967296) % 65521
 }
 
-fn sum_bytes(sum: u64, s: &[u8]) -> u64
+pub(crate) fn sum_bytes(sum: u64, s: &[u8]) -> u64
     ensures { λ r. ⌜ r < 65521 ⌝ }
 {
     let mut t = sum % 65521;
@@ -96,7 +99,7 @@ fn judge_operation(bytes: &[u8]) -> Row {
     let op = parsed.operation;
     if parsed.answer != 0 {
         return Row {
-            answer: parsed.answer as u32,
+            answer: parsed.answer as u64,
             left: 0,
         };
     }
@@ -109,7 +112,7 @@ fn judge_operation(bytes: &[u8]) -> Row {
 fn fresh_row(file: &[u8], area: &mut [u8]) -> Row {
     let answer = gate::gate_fresh(file, area);
     Row {
-        answer: answer,
+        answer: wider(answer),
         left: sum_bytes(0, &area[..]),
     }
 }
@@ -178,7 +181,7 @@ fn judge_formed(bytes: &[u8]) -> Row {
     let formed = state::formed::well_formed(&area, MOST_OBJECTS as usize, config);
     if loaded.answer != 0 {
         return Row {
-            answer: loaded.answer as u32,
+            answer: loaded.answer as u64,
             left: 0,
         };
     }
@@ -192,7 +195,7 @@ fn judge_formed(bytes: &[u8]) -> Row {
 pub(crate) fn judge(call: u8, bytes: &[u8]) -> Row {
     match call {
         LOAD => Row {
-            answer: gate::gate_load_check(bytes),
+            answer: wider(gate::gate_load_check(bytes)),
             left: 0,
         },
         FRESH => judge_fresh(0, bytes),
@@ -200,6 +203,7 @@ pub(crate) fn judge(call: u8, bytes: &[u8]) -> Row {
         FRESH_LONG => judge_fresh(2, bytes),
         FORMED => judge_formed(bytes),
         OPERATION => judge_operation(bytes),
+        WRITE => judge_write(bytes),
         _ => Row {
             answer: UNKNOWN,
             left: 0,

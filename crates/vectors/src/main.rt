@@ -1,16 +1,20 @@
 // Judges the stored cases on standard input and writes a row for each: its place from 1, the answer, and a checksum of
 // what the call left (0 where it leaves nothing). tests/vectors.py says what a case is.
 mod cases;
+mod memory;
 
 use cases::Row;
+use libc::STDIN_FILENO;
 use libc::STDOUT_FILENO;
+
+const MOST_INPUT: usize = 131072;
 
 const HEAD_BYTES: usize = 3;
 
 fn print_row(place: u64, row: Row) {
     io::print_decimal(STDOUT_FILENO, place);
     io::write_all(STDOUT_FILENO, b" ");
-    io::print_decimal(STDOUT_FILENO, row.answer as u64);
+    io::print_decimal(STDOUT_FILENO, row.answer);
     io::write_all(STDOUT_FILENO, b" ");
     io::print_decimal(STDOUT_FILENO, row.left);
     io::write_all(STDOUT_FILENO, b"\n");
@@ -37,7 +41,7 @@ fn judge_all(s: &[u8]) {
 }
 
 fn main() {
-    let mut buf = io::large_buffer();
-    let n = io::read_full(0, &mut buf);
+    let mut buf = [0u8; MOST_INPUT];
+    let n = io::read_full(STDIN_FILENO, &mut buf);
     judge_all(&buf[..n]);
 }
