@@ -112,12 +112,15 @@ def try_judge(root, judge):
         ([judge, str(empty)], 2, b"", "has no line.bin"),
         ([judge, str(root / "nowhere")], 2, b"", "there is no folder"),
         ([judge, "a", "b"], 2, b"", "one folder at most"),
+        ([judge, "--program", "nothing"], 2, b"", "there is no program 'nothing'"),
+        ([judge, "--program", "office", "rewrite"], 2, b"", "one program at most"),
     ):
         expect(words, status, out, err)
     # A copy with nothing built, where the toolchain is not on the path.
-    bare = house(root / "bare", judge)
-    expect([str(bare / "judge"), str(accepted)], 2, b"", "'rt' of the Rattle toolchain is not installed",
-           {"PATH": "/usr/bin:/bin"})
+    bare = str(house(root / "bare", judge) / "judge")
+    for words, program in (([bare, str(accepted)], "office"), ([bare, "--program", "rewrite"], "rewriting")):
+        message = f"'rt' of the Rattle toolchain is not installed; it proves and builds the {program} program"
+        expect(words, 2, b"", message, {"PATH": "/usr/bin:/bin"})
 
 
 def house(place, judge):

@@ -50,6 +50,17 @@ pub enum Owner {
     Device(usize),
 }
 
+impl Owner {
+    /// Owner class and owner number, as a file has them.
+    pub fn numbers(self) -> (usize, usize) {
+        match self {
+            Owner::External => (0, 0),
+            Owner::Driver(driver) => (1, driver),
+            Owner::Device(device) => (2, device),
+        }
+    }
+}
+
 #[derive(Clone, Copy, Debug, PartialEq, Eq)]
 pub struct Object {
     pub kind: Kind,

@@ -1,12 +1,14 @@
-//! The three functions of the gate, as the C interface has them: load check, fresh, operate.
+//! The functions of the gate, as the C interface has them: load check, fresh, operate, rewrite.
 
 use crate::closure::{Search, closure};
 use crate::config::{Config, load};
 use crate::effect;
 use crate::limits::{ANSWER_BYTES, CONTENT_BYTES, STATE_BYTES};
+use crate::memory::Memory;
 use crate::operation;
 use crate::questions::{Case, refusal};
 use crate::state::{Contents, State, well_formed};
+use crate::writer::{Written, coded, write};
 
 /// Puts questions 1 to 6 to a configuration file.
 pub fn load_check(line: &[u8]) -> u32 {
@@ -66,5 +68,19 @@ pub fn judge(search: Search, config: &Config, state: &State, record: &[u8]) -> J
     match refusal(&case) {
         Some(number) => Err(number),
         None => Ok((effect::apply(config, state, &operation), effect::answers(state, &operation))),
+    }
+}
+
+/// Loads a configuration file and writes it into an area, questions 1 to 6. At a refusal, and where the area is too
+/// short, it is as it was.
+pub fn rewrite(line: &[u8], out: &mut [u8]) -> u64 {
+    coded(rewritten(line, out))
+}
+
+/// The same, with the answer before it is a number.
+pub fn rewritten(line: &[u8], out: &mut [u8]) -> Written {
+    match load(line) {
+        Err(number) => Written::Refused(number),
+        Ok(config) => write(&Memory::of(&config), out),
     }
 }

@@ -2,8 +2,9 @@
 //! proved one. Nothing in the library prints.
 //!
 //! Bytes come in, `config` and `operation` make values of them, `questions` ask `state`, `trace` and `closure`,
-//! `effect` makes the state that follows, `gate` and `office` put bytes out. `generate` makes inputs; `faults` are
-//! judges that are wrong in one point each, and `coverage` counts what inputs show, the faults noticed among it.
+//! `effect` makes the state that follows, `writer` makes a file of what stands in `memory`, `gate` and `office` put
+//! bytes out. `generate` makes inputs; `faults` are judges that are wrong in one point each, and `coverage` counts what
+//! inputs show, the faults noticed among it.
 
 pub mod closure;
 pub mod config;
@@ -13,6 +14,7 @@ pub mod faults;
 pub mod gate;
 pub mod generate;
 pub mod limits;
+pub mod memory;
 pub mod office;
 pub mod operation;
 pub mod questions;
@@ -20,7 +22,10 @@ pub mod state;
 pub mod tokens;
 pub mod trace;
 pub mod varint;
+pub mod writer;
 
 pub use config::{Config, load};
-pub use gate::{fresh, load_check, operate};
-pub use office::report;
+pub use gate::{fresh, load_check, operate, rewrite};
+pub use memory::Memory;
+pub use office::{report, rewriting};
+pub use writer::{Written, coded, write};

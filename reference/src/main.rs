@@ -1,11 +1,11 @@
-//! The command: `report`, `generate`, `sessions` and `coverage`.
+//! The command: `report`, `rewrite`, `generate`, `sessions` and `coverage`.
 
 use reference::coverage::Coverage;
 use reference::generate::sessions::folder;
 use reference::generate::stored::{MOST_INPUT, cases, long, with_drills};
 use reference::generate::{Rng, Size};
 use reference::limits::{LINE_LIMIT, SESSION_LIMIT};
-use reference::report;
+use reference::{report, rewriting};
 use std::fs::{self, File};
 use std::io::{self, ErrorKind, Read, Write};
 use std::path::Path;
@@ -13,6 +13,7 @@ use std::process::ExitCode;
 
 const USAGE: &str = "usage:
   reference report FOLDER
+  reference rewrite FOLDER OUT
   reference generate [--seed S] [--count C] [--records R] [--size tiny|small|medium|deep|full] FOLDER
   reference sessions [--seed S] [--count C] [--bytes B] [--long yes] OUT_STDIN OUT_STDOUT
   reference coverage STDIN";
@@ -32,6 +33,7 @@ fn run(words: &[String]) -> Result<(), String> {
     let options = Options::read(words.get(1..).unwrap_or_default())?;
     match (words.first().map(String::as_str), &options.places[..]) {
         (Some("report"), [folder]) => print_report(Path::new(folder)),
+        (Some("rewrite"), [folder, out]) => rewrite(Path::new(folder), Path::new(out)),
         (Some("generate"), [folder]) => generate(&options, Path::new(folder)),
         (Some("sessions"), [input, expected]) => sessions(&options, input, expected),
         (Some("coverage"), [input]) => coverage(Path::new(input)),
@@ -104,6 +106,13 @@ fn print_report(folder: &Path) -> Result<(), String> {
     let line = read_file(&folder.join("line.bin"), LINE_LIMIT)?;
     let session = read_file(&folder.join("session.bin"), SESSION_LIMIT)?;
     io::stdout().write_all(&report(&line, &session)).map_err(|error| error.to_string())
+}
+
+/// Prints what the rewriting program prints; what it would write as line.out goes to `out`, and else `out` stays.
+fn rewrite(folder: &Path, out: &Path) -> Result<(), String> {
+    let (text, file) = rewriting(&read_file(&folder.join("line.bin"), LINE_LIMIT)?);
+    print!("{text}");
+    file.map_or(Ok(()), |bytes| put(out, &bytes))
 }
 
 /// Writes folders 1, 2 and so on, each with line.bin, session.bin and the expected report.

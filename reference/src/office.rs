@@ -1,8 +1,10 @@
-//! The office program: what it prints for a configuration file and a session.
+//! The programs: what the office program prints for a configuration file and a session, and what the program that
+//! rewrites a configuration file (request N1) prints and writes.
 
-use crate::gate::{fresh, operate};
+use crate::gate::{fresh, operate, rewritten};
 use crate::limits::{ANSWER_BYTES, LINE_LIMIT, SESSION_LIMIT, STATE_BYTES};
 use crate::varint::Reader;
+use crate::writer::Written;
 
 /// The whole output, byte for byte. A slice longer than its limit counts as a file that is too long.
 pub fn report(line: &[u8], session: &[u8]) -> Vec<u8> {
@@ -36,4 +38,20 @@ fn rows(line: &[u8], session: &[u8], state: &mut [u8]) -> String {
 pub fn next_record<'a>(reader: &mut Reader<'a>) -> Option<&'a [u8]> {
     let length = reader.number().ok()?;
     reader.raw(length)
+}
+
+/// The text that the rewriting program prints for `line.bin`, and the bytes of `line.out`; none where it leaves that
+/// file alone. A slice longer than its limit counts as a file that is too long.
+pub fn rewriting(line: &[u8]) -> (String, Option<Vec<u8>>) {
+    let long = ("long\n".to_string(), None);
+    if line.len() > LINE_LIMIT {
+        return long;
+    }
+    let mut out = vec![0; LINE_LIMIT];
+    match rewritten(line, &mut out) {
+        Written::Length(length) => (String::new(), Some(out[..length].to_vec())),
+        Written::Refused(number) => (format!("line {number}\n"), None),
+        // No file that is accepted is longer than the files that the program takes.
+        Written::Short(_) => long,
+    }
 }

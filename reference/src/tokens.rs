@@ -1,7 +1,7 @@
 //! Configuration files and records as rows of tokens, a token being a number or bytes as they stand: what comes before
 //! the bytes when a file or record is written, and where the generator breaks them.
 
-use crate::config::{Config, Owner};
+use crate::config::Config;
 use crate::limits::EDITION;
 use crate::operation::{Operation, Put};
 use crate::varint;
@@ -32,11 +32,7 @@ pub fn row(numbers: &[usize]) -> Vec<u8> {
 pub fn of_config(config: &Config) -> Vec<Token> {
     let mut row = vec![EDITION, config.drivers, config.devices(), config.objects.len(), config.values.len()];
     for object in &config.objects {
-        let (class, owner) = match object.owner {
-            Owner::External => (0, 0),
-            Owner::Driver(driver) => (1, driver),
-            Owner::Device(device) => (2, device),
-        };
+        let (class, owner) = object.owner.numbers();
         row.extend([object.kind.number(), class, owner]);
     }
     row.extend(&config.hardcoded);

@@ -78,6 +78,16 @@ mod tests {
     }
 
     #[test]
+    fn every_number_is_written_in_its_shortest_form() {
+        for value in 0..=MAX_NUMBER {
+            let mut bytes = Vec::new();
+            write(value, &mut bytes);
+            let shortest = (1..=MAX_NUMBER_BYTES).find(|length| value < 1 << (7 * length));
+            assert_eq!((read(&bytes), Some(bytes.len())), (Ok(value), shortest));
+        }
+    }
+
+    #[test]
     fn no_last_byte_is_cut_however_long() {
         assert_eq!(read(&[]), Err(Fault::Cut));
         assert_eq!(read(&[128]), Err(Fault::Cut));

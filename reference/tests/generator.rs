@@ -4,10 +4,11 @@ use reference::Config;
 use reference::closure::{closure, rounds};
 use reference::gate::judge;
 use reference::generate::records::record;
+use reference::generate::rewrites::rewrites;
 use reference::generate::worlds::world;
 use reference::generate::{Rng, Size, Want, areas, broken};
 use reference::state::{State, well_formed};
-use reference::{effect, load, operation};
+use reference::{effect, load, operation, rewrite};
 use std::collections::BTreeSet;
 
 #[test]
@@ -48,6 +49,22 @@ fn broken_lines_get_every_number() {
         });
         assert!(hits.count() > 120, "{number}");
     }
+}
+
+#[test]
+fn rewritten_files_show_every_kind_of_answer() {
+    let mut rng = Rng::new(7);
+    let mut seen = [[0; 7]; 3];
+    for _ in 0..100 {
+        let world = world(&mut rng, Size::Small);
+        for call in rewrites(&mut rng, &world) {
+            let answer = rewrite(&call.line, &mut call.out.clone());
+            let (kind, number) = ((answer >> 32) as usize, answer as u32 as usize);
+            seen[kind][if kind == 1 { number } else { 0 }] += 1;
+        }
+    }
+    assert!(seen[0][0] >= 300 && seen[2][0] >= 200, "{seen:?}");
+    assert!((1..=6).all(|number| seen[1][number] >= 60), "{seen:?}");
 }
 
 #[test]

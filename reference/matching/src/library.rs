@@ -1,6 +1,6 @@
 //! The proved library, called through its C interface (sorter_gate.h), with guards behind the areas that it may change.
 
-use reference::generate::{Call, Function};
+use reference::generate::{Call, Function, Rewrite};
 
 unsafe extern "C" {
     fn gate_load_check(line: *const u8, line_len: usize) -> u32;
@@ -15,6 +15,7 @@ unsafe extern "C" {
         answer: *mut u8,
         answer_len: usize,
     ) -> u32;
+    fn gate_rewrite(line: *const u8, line_len: usize, out: *mut u8, out_len: usize) -> u64;
 }
 
 /// What a call answered and left.
@@ -75,4 +76,22 @@ fn invoke(call: &Call, state: &mut [u8], answer: &mut [u8]) -> u32 {
             ),
         }
     }
+}
+
+/// What rewriting a file answered and left.
+#[derive(Clone, Debug, PartialEq, Eq)]
+pub struct Rewritten {
+    pub answer: u64,
+    pub out: Vec<u8>,
+    /// Whether the bytes before and behind the area are as they were.
+    pub guards_kept: bool,
+}
+
+/// Rewrites the call's file into a copy of its area.
+pub fn rewrite(call: &Rewrite) -> Rewritten {
+    let mut out = Guarded::new(&call.out);
+    let area = out.area();
+    // SAFETY: both pointers come from slices and are valid for their lengths, also at length 0; the two do not overlap.
+    let answer = unsafe { gate_rewrite(call.line.as_ptr(), call.line.len(), area.as_mut_ptr(), area.len()) };
+    Rewritten { answer, out: out.area().to_vec(), guards_kept: out.kept() }
 }

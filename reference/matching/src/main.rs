@@ -1,11 +1,14 @@
 //! Compares the proved library with the second implementation over generated calls: the answer, all state bytes and all
-//! answer bytes after every call. Ends with 1 at the first difference, or if some number never occurs.
+//! answer bytes after every call. The file of every session is rewritten besides (`rewrites`). Ends with 1 at the first
+//! difference, or if some number or kind of answer never occurs.
 
 mod library;
+mod rewrites;
 
 use library::Result as Outcome;
 use reference::generate::{Call, Calls, Function};
 use reference::{fresh, load_check, operate};
+use rewrites::Rewrites;
 use std::process::ExitCode;
 
 const USAGE: &str = "usage: matching [--calls N] [--seed S]";
@@ -40,9 +43,14 @@ fn options() -> Option<(u64, u64)> {
 
 fn compare(calls: u64, seed: u64) -> ExitCode {
     let mut stream = Calls::new(seed);
+    let mut rewrites = Rewrites::new(seed);
     let mut seen = [0_u64; NUMBERS];
     for place in 1..=calls {
+        let sessions = stream.sessions;
         let call = stream.next_call();
+        if stream.sessions != sessions && !rewrites.agree(stream.world()) {
+            return ExitCode::FAILURE;
+        }
         let here = by_reference(&call);
         let there = library::run(&call);
         if here != there {
@@ -57,12 +65,14 @@ fn compare(calls: u64, seed: u64) -> ExitCode {
     }
     println!("seed {seed}: {} sessions, {calls} calls", stream.sessions);
     seen.iter().enumerate().for_each(|(number, count)| println!("{number:>3} {count}"));
+    rewrites.print();
     println!("0 differences");
-    let absent: Vec<usize> = (0..NUMBERS).filter(|number| seen[*number] == 0).collect();
+    let numbers = (0..NUMBERS).filter(|number| seen[*number] == 0).map(|number| number.to_string());
+    let absent: Vec<String> = numbers.chain(rewrites.absent()).collect();
     if absent.is_empty() {
         return ExitCode::SUCCESS;
     }
-    println!("never occurred: {absent:?}");
+    println!("never occurred: {}", absent.join(", "));
     ExitCode::FAILURE
 }
 
@@ -77,7 +87,7 @@ fn by_reference(call: &Call) -> Outcome {
     Outcome { number, state, answer, guards_kept: true }
 }
 
-fn hex(bytes: &[u8]) -> String {
+pub(crate) fn hex(bytes: &[u8]) -> String {
     bytes.iter().map(|byte| format!("{byte:02x}")).collect()
 }
 

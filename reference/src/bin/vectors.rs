@@ -4,30 +4,35 @@
 //! A case is a byte for what is called, its length in two bytes, lowest first, and its bytes. A row is the case's place
 //! from 1, the answer, and a checksum of what the call left (0 where it leaves nothing).
 
-use reference::limits::{MAX_COUNT, STATE_BYTES};
+use reference::limits::{LINE_LIMIT, MAX_COUNT, STATE_BYTES};
 use reference::operation::{self, Operation, Put};
 use reference::state::{CLEARED, Contents, State, well_formed};
-use reference::{fresh, load, load_check};
+use reference::{Memory, coded, fresh, load, load_check, write};
 use std::io::{Read, Write};
 use std::process::ExitCode;
 
 /// What a case calls: the load check; making a fresh state in an area of the right length, of a byte less and of a byte
-/// more; question 9; question 10.
+/// more; question 9; question 10; the writer of files.
 const LOAD: u8 = 1;
 const FRESH: u8 = 2;
 const FORMED: u8 = 3;
 const OPERATION: u8 = 4;
 const FRESH_SHORT: u8 = 5;
 const FRESH_LONG: u8 = 6;
+const WRITE: u8 = 7;
 
 const HEAD_BYTES: usize = 3;
 const PATCH_BYTES: usize = 3;
+const LENGTH_BYTES: usize = 2;
 
-/// What an area holds before a fresh state is made in it.
+/// What an area holds before a fresh state is made in it, or a file written into it.
 const OLD_BYTE: u8 = 0xAA;
 
+/// The longest area that a file is written into: a longer one is cut to it.
+const LONGEST_AREA: usize = LINE_LIMIT;
+
 /// An answer, and the checksum of what was left.
-type Row = (u32, u64);
+type Row = (u64, u64);
 
 fn main() -> ExitCode {
     match run() {
@@ -66,19 +71,20 @@ fn two(low: u8, high: u8) -> usize {
 
 fn judge(call: u8, bytes: &[u8]) -> Option<Row> {
     match call {
-        LOAD => Some((load_check(bytes), 0)),
+        LOAD => Some((u64::from(load_check(bytes)), 0)),
         FRESH => Some(judge_fresh(bytes, STATE_BYTES)),
         FRESH_SHORT => Some(judge_fresh(bytes, STATE_BYTES - 1)),
         FRESH_LONG => Some(judge_fresh(bytes, STATE_BYTES + 1)),
         FORMED => judge_formed(bytes),
         OPERATION => Some(judge_record(bytes)),
+        WRITE => judge_write(bytes),
         _ => None,
     }
 }
 
 fn judge_fresh(line: &[u8], length: usize) -> Row {
     let mut area = vec![OLD_BYTE; length];
-    let answer = fresh(line, &mut area);
+    let answer = u64::from(fresh(line, &mut area));
     (answer, checksum(area.into_iter().map(usize::from)))
 }
 
@@ -92,11 +98,20 @@ fn judge_formed(bytes: &[u8]) -> Option<Row> {
         *area.get_mut(two(low, high))? = byte;
     }
     let answer = match load(line) {
-        Err(number) => u32::from(number),
+        Err(number) => u64::from(number),
         Ok(config) if well_formed(&config, &State::from_bytes(&area)?) => 0,
         Ok(_) => 9,
     };
     Some((answer, 0))
+}
+
+/// The area's length in two bytes, then a configuration in memory; bytes missing at the end are 0.
+fn judge_write(bytes: &[u8]) -> Option<Row> {
+    let byte = |place: usize| bytes.get(place).copied().unwrap_or(0);
+    let memory = Memory::from_bytes(bytes.get(LENGTH_BYTES..).unwrap_or_default())?;
+    let mut area = vec![OLD_BYTE; two(byte(0), byte(1)).min(LONGEST_AREA)];
+    let answer = coded(write(&memory, &mut area));
+    Some((answer, checksum(area.into_iter().map(usize::from))))
 }
 
 fn judge_record(record: &[u8]) -> Row {

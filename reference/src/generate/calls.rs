@@ -1,5 +1,5 @@
-//! A stream of calls of the three functions: sessions with the state carried on, and between their calls others with
-//! malformed files, areas and records, which carry nothing on. Some sessions begin with a drill.
+//! A stream of calls of the functions that judge: sessions with the state carried on, and between their calls others
+//! with malformed files, areas and records, which carry nothing on. Some sessions begin with a drill.
 
 use super::areas;
 use super::broken;
@@ -63,6 +63,11 @@ impl Calls {
                 self.operation()
             }
         }
+    }
+
+    /// The world of the session that the last call belongs to.
+    pub fn world(&self) -> &World {
+        &self.world
     }
 
     pub fn carry(&mut self, call: &Call, state: &[u8]) {
