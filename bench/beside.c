@@ -1,7 +1,8 @@
 // Makes one call of the library or of the plain gate on the same areas again and again, so that callgrind can count
-// one.
-//   beside load|fresh|operate LINE AREA RECORD TIMES gate|plain   prints the answer
-//   beside load|fresh|operate LINE AREA RECORD 1 both             and ends with 1 if they leave different areas
+// one. A line is rewritten into as many bytes as AREA has.
+//   beside load|fresh|operate|rewrite LINE AREA RECORD TIMES gate|plain   prints the answer
+//   beside load|fresh|operate|rewrite LINE AREA RECORD 1 both             and ends with 1 if they leave different areas
+#include <inttypes.h>
 #include <stdbool.h>
 #include <stdio.h>
 #include <stdlib.h>
@@ -20,9 +21,12 @@ struct areas {
     uint8_t state[ROOM], answer[SORTER_GATE_ANSWER_BYTES];
 };
 
-static uint32_t gate_call(char call, struct areas *to) {
+static uint64_t gate_call(char call, struct areas *to) {
     if (call == 'l') {
         return gate_load_check(line, line_len);
+    }
+    if (call == 'r') {
+        return gate_rewrite(line, line_len, to->state, area_len);
     }
     memcpy(to->state, area, area_len);
     return call == 'f'
@@ -30,9 +34,12 @@ static uint32_t gate_call(char call, struct areas *to) {
                : gate_operate(line, line_len, to->state, area_len, record, record_len, to->answer, sizeof to->answer);
 }
 
-static uint32_t plain_call(char call, struct areas *to) {
+static uint64_t plain_call(char call, struct areas *to) {
     if (call == 'l') {
         return plain_load_check(line, line_len);
+    }
+    if (call == 'r') {
+        return plain_rewrite(line, line_len, to->state, area_len);
     }
     memcpy(to->state, area, area_len);
     return call == 'f'
@@ -41,11 +48,11 @@ static uint32_t plain_call(char call, struct areas *to) {
 }
 
 // Both, once: the answer if they agree.
-static uint32_t same_call(char call) {
+static uint64_t same_call(char call) {
     static struct areas first, second;
-    uint32_t number = gate_call(call, &first), other = plain_call(call, &second);
+    uint64_t number = gate_call(call, &first), other = plain_call(call, &second);
     if (number != other || memcmp(&first, &second, sizeof first)) {
-        fprintf(stderr, "the library answers %u, the plain gate %u%s\n", number, other,
+        fprintf(stderr, "the library answers %" PRIu64 ", the plain gate %" PRIu64 "%s\n", number, other,
                 number == other ? ", and they leave different areas" : "");
         exit(1);
     }
@@ -54,8 +61,8 @@ static uint32_t same_call(char call) {
 
 int main(int argc, char **argv) {
     static struct areas areas;
-    if (argc != 7 || !strchr("lfo", argv[1][0])) {
-        fprintf(stderr, "beside load|fresh|operate LINE AREA RECORD TIMES gate|plain|both\n");
+    if (argc != 7 || !strchr("lfor", argv[1][0])) {
+        fprintf(stderr, "beside load|fresh|operate|rewrite LINE AREA RECORD TIMES gate|plain|both\n");
         return 2;
     }
     line_len = slurp(argv[2], line, sizeof line);
@@ -63,10 +70,10 @@ int main(int argc, char **argv) {
     record_len = slurp(argv[4], record, sizeof record);
     char call = argv[1][0];
     bool plain = !strcmp(argv[6], "plain");
-    uint32_t number = strcmp(argv[6], "both") ? 0 : same_call(call);
+    uint64_t number = strcmp(argv[6], "both") ? 0 : same_call(call);
     for (long times = strcmp(argv[6], "both") ? atol(argv[5]) : 0; times > 0; times--) {
         number = plain ? plain_call(call, &areas) : gate_call(call, &areas);
     }
-    printf("%u\n", number);
+    printf("%" PRIu64 "\n", number);
     return 0;
 }

@@ -6,7 +6,7 @@ import pathlib
 import full
 import lines
 import vectors
-from measure import TIMES, build, expect, one_call, run, write_case
+from measure import TIMES, build, expect, one_call, run, write_case, write_files
 
 TOP = pathlib.Path(__file__).resolve().parent.parent
 PLAIN = sorted(str(path.relative_to(TOP)) for path in (TOP / "bench" / "plain").glob("*.c"))
@@ -16,6 +16,9 @@ ORDERS = ("rising", "falling", "shuffled")
 # Generated calls that must agree before anything is counted: a gate that is wrong is no mark.
 AGREEING = 200000
 RAW = bytes(range(16))
+# An answer that has a kind: the kind's words, and what it counts.
+DONE, SHORT, KIND_UNIT = 0, 2, 2 ** 32
+KINDS = {DONE: "done", SHORT: "short"}
 
 
 def program(folder):
@@ -31,7 +34,11 @@ def agree(folder):
 
 def both(folder, made, label, call, line, record, stated, times=TIMES):
     """Instructions of the plain gate and of the library for one case."""
-    paths = write_case(folder, line, record)
+    return counted(folder, made, label, call, write_case(folder, line, record), stated, times)
+
+
+def counted(folder, made, label, call, paths, stated, times=TIMES):
+    """The same for a case whose files are written."""
     expect(label, stated, run(made, call, *paths, 1, "both").stdout.strip())
     (plain, first), (gate, second) = (one_call(folder, made, call, *paths, who, times=times)
                                       for who in ("plain", "gate"))
@@ -70,6 +77,7 @@ def cases(size):
     yield "activate a card, dense", "operate", absent, vectors.row([8, absent.devices, 1]), "0"
     yield "object leaves, dense", "operate", dense, vectors.row([12, 1, 1, last]), "0"
     yield "card writes eight items, dense", "operate", dense, card_writes(dense), "0"
+    yield "rewrite the line", "rewrite", dense, b"", str(len(dense.file()))
 
 
 def table(folder):
@@ -80,6 +88,20 @@ def table(folder):
             label = f"{name}: {label}"
             plain, gate = both(folder, made, label, call, line, record, stated)
             print(f"{label:<56}{stated:>6}{plain:>10}{gate:>10}{gate / plain:>8.2f}")
+
+
+def rewrite_table(folder):
+    """Line files loaded and written again: document 01's and the longest, into an area that is long enough and into
+    none, which asks for the length."""
+    made = program(folder)
+    line_l, longest = vectors.row(vectors.L), vectors.full_size()
+    cases = [("document 01's L", line_l, len(line_l), DONE), ("every count at its limit", longest, len(longest), DONE),
+             ("the same, with no area", longest, 0, SHORT)]
+    print(f"{'rewriting':<36}{'bytes':>6}{'answer':>8}{'plain C':>10}{'library':>10}{'ratio':>8}")
+    for label, file, room, kind in cases:
+        paths = write_files(folder, file, bytes(room), b"")
+        plain, gate = counted(folder, made, label, "rewrite", paths, str(kind * KIND_UNIT + len(file)))
+        print(f"{label:<36}{len(file):>6}{KINDS[kind]:>8}{plain:>10}{gate:>10}{gate / plain:>8.2f}")
 
 
 def growth_row(label, counts):

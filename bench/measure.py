@@ -47,9 +47,14 @@ def build(program, library, *sources):
     return program
 
 
-def write_case(folder, line, record=b""):
-    """The files of a call, by the names that the programs take."""
+def write_files(folder, *contents):
+    """The files of a call (line, area, record), by the names that the programs take."""
     paths = [pathlib.Path(folder) / name for name in ("line.bin", "area.bin", "record.bin")]
-    for path, data in zip(paths, (line.file(), line.area(), record)):
+    for path, data in zip(paths, contents, strict=True):
         path.write_bytes(data)
     return paths
+
+
+def write_case(folder, line, record=b""):
+    """The files of a call on a line and the state that it stands in."""
+    return write_files(folder, line.file(), line.area(), record)

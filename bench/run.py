@@ -1,10 +1,10 @@
 #!/usr/bin/env python3
-"""Instructions by callgrind, in one run: calls beside a gate in plain C, which must first agree with the library, and
-how both grow with a chain; one search of the closure, whole calls, where their instructions go, calls beside the second
-implementation; and the stack that a call takes.
+"""Instructions by callgrind, in one run: calls beside a gate in plain C, which must first agree with the library, line
+files rewritten, and how both grow with a chain; one search of the closure, whole calls, where their instructions go,
+calls beside the second implementation; and the stack that a call takes.
 
     bench/run.py            all tables; needs rt, make, gcc, cargo and valgrind
-    bench/run.py NAME..     some of them: load, beside, growth, search, operate, parts, reference, stack
+    bench/run.py NAME..     some of them: load, beside, rewrite, growth, search, operate, parts, reference, stack
 """
 import pathlib
 import sys
@@ -103,10 +103,11 @@ def reference_table(folder):
             print(f"{label:<42}{first:>6}{other:>12}{gate:>10}{other / gate:>8.1f}")
 
 
-TABLES = {"load": load_table, "beside": beside.table, "growth": beside.growth_table, "search": search_table,
-          "operate": operate_table, "parts": parts.table, "reference": reference_table, "stack": stack.table}
+TABLES = {"load": load_table, "beside": beside.table, "rewrite": beside.rewrite_table, "growth": beside.growth_table,
+          "search": search_table, "operate": operate_table, "parts": parts.table, "reference": reference_table,
+          "stack": stack.table}
 # The tables that have figures of the plain gate.
-WITH_PLAIN = {"load", "beside", "growth"}
+WITH_PLAIN = {"load", "beside", "rewrite", "growth"}
 
 
 def main():

@@ -1,8 +1,10 @@
 // The stack that a call takes: each call is made in a thread of its own whose stack was painted before. From the frame
 // of the caller down to the lowest byte that changed is what the call took. Two paints, so that a byte stored with the
 // paint's own value is not missed.
-//   stack LINE AREA RECORD   prints the bytes and the answer of a load check, of a fresh state and of the operation
+//   stack LINE AREA RECORD   prints the bytes and the answer of a load check, of a fresh state, of the operation and of
+//                            a rewriting of the line
 #define _POSIX_C_SOURCE 200809L
+#include <inttypes.h>
 #include <pthread.h>
 #include <stdio.h>
 #include <stdlib.h>
@@ -13,13 +15,13 @@
 
 enum { STACK_BYTES = 1 << 20 };
 
-enum call { LOAD, FRESH, OPERATE };
+enum call { LOAD, FRESH, OPERATE, REWRITE };
 
-static uint8_t line[4096], area[4096], state[4096], record[4096], answer[SORTER_GATE_ANSWER_BYTES];
+static uint8_t line[4096], area[4096], state[4096], record[4096], answer[SORTER_GATE_ANSWER_BYTES], out[4096];
 static size_t line_len, area_len, record_len;
 static _Alignas(4096) uint8_t stack[STACK_BYTES];
 static enum call wanted;
-static uint32_t number;
+static uint64_t number;
 static const uint8_t *frame;
 
 // What the thread does: the caller, whose frame is where the counting begins.
@@ -30,8 +32,10 @@ static void *work(void *unused) {
         number = gate_load_check(line, line_len);
     } else if (wanted == FRESH) {
         number = gate_fresh(line, line_len, state, area_len);
-    } else {
+    } else if (wanted == OPERATE) {
         number = gate_operate(line, line_len, state, area_len, record, record_len, answer, sizeof answer);
+    } else {
+        number = gate_rewrite(line, line_len, out, sizeof out);
     }
     return NULL;
 }
@@ -63,12 +67,12 @@ static size_t painted_depth(enum call call, int paint) {
 // The same call twice, which must give the same answer.
 static void measure(enum call call) {
     size_t first = painted_depth(call, 0xA5);
-    uint32_t first_number = number;
+    uint64_t first_number = number;
     size_t second = painted_depth(call, 0x5A);
     if (first_number != number) {
         stop("the second call of two");
     }
-    printf("%zu %u\n", first > second ? first : second, number);
+    printf("%zu %" PRIu64 "\n", first > second ? first : second, number);
 }
 
 int main(int argc, char **argv) {
@@ -79,7 +83,7 @@ int main(int argc, char **argv) {
     line_len = slurp(argv[1], line, sizeof line);
     area_len = slurp(argv[2], area, sizeof area);
     record_len = slurp(argv[3], record, sizeof record);
-    for (enum call call = LOAD; call <= OPERATE; call++) {
+    for (enum call call = LOAD; call <= REWRITE; call++) {
         measure(call);
     }
     return 0;

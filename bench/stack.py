@@ -15,24 +15,30 @@ import lines  # noqa: E402
 import vectors  # noqa: E402
 from measure import build, run, write_case  # noqa: E402
 
-# 17 KiB: what docs/CONTROLLER.md counts on, before it adds room for the host's own frames and signals.
+# 17 KiB: what docs/CONTROLLER.md counts on, before it adds room for the host's own frames and signals; and what a
+# rewriting of a line file is held to.
 MOST = 17408
+MOST_REWRITE = 16384
 # Every call fills tables of the line on its stack. A measurement of less has not seen the call.
 LEAST = 512
 
 # All names are bound before the first call: the loader would do that on the stack that is measured.
 SOURCES = ("gate", "-pthread", "-Wl,-z,now", "-Iinclude", "bench/stack.c")
-WRAP = "-Wl,--wrap=gate_load_check,--wrap=gate_fresh,--wrap=gate_operate"
+WRAP = "-Wl,--wrap=gate_load_check,--wrap=gate_fresh,--wrap=gate_operate,--wrap=gate_rewrite"
 
-CALLS = ("load check", "fresh state", "operation")
+# Each call with the most that it may take; the operation's answer is the record's.
+CALLS = {"load check": MOST, "fresh state": MOST, "operation": MOST, "rewriting": MOST_REWRITE}
+OPERATION = list(CALLS).index("operation")
 CODES = range(1, 13)
 
 # Faults by their names in tests/faulty.c, and how what is said of them begins.
 FAULTS = {
     "constant 0": "operation: answer 0, not 10",
     "constant 10": "load check: answer 10, not 0",
+    "always 0": "rewriting: answer 0, not",
     "elsewhere": "load check: less than",
     "deep": "operation: more than",
+    "deep-rewrite": "rewriting: more than",
 }
 
 
@@ -88,7 +94,7 @@ def rows(program, folder, fault):
         for record, answers in records(line):
             told = run(program, *write_case(folder, line, record), env=environment).stdout.split()
             depths, found = [[int(n) for n in told[i::2]] for i in (0, 1)]
-            yield record[:1], list(zip(CALLS, depths, found, (0, 0, answers[place])))
+            yield record[:1], list(zip(CALLS, depths, found, (0, 0, answers[place], len(line.file()))))
 
 
 def faults(row):
@@ -99,8 +105,8 @@ def faults(row):
     for call, depth, _, _ in row:
         if depth < LEAST:
             yield f"{call}: less than {LEAST} bytes of stack, {depth}"
-        if depth > MOST:
-            yield f"{call}: more than the {MOST} bytes of stack that docs/CONTROLLER.md counts on, {depth}"
+        if depth > CALLS[call]:
+            yield f"{call}: more than the {CALLS[call]} bytes of stack that docs/CONTROLLER.md counts on, {depth}"
 
 
 def table(folder):
@@ -111,8 +117,9 @@ def table(folder):
             sys.exit(fault)
         for call, depth, _, _ in row:
             most[call] = max(most[call], depth)
-        answers.add(row[-1][2])
-        accepted.update(code if row[-1][2] == 0 else b"")
+        answer = row[OPERATION][2]
+        answers.add(answer)
+        accepted.update(code if answer == 0 else b"")
     if accepted != set(CODES):
         sys.exit(f"only these codes are accepted: {sorted(accepted)}")
     print(f"{'stack of one call':<36}{'bytes':>8}")

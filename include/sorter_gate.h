@@ -2,12 +2,13 @@
  * The sorter gate: judges the operations that move devices, drivers and objects between partitions.
  *
  * Every call answers a number: 0 is accepted, any other is the first question of document 01 that is answered with no
- * (the list is below). Calls keep nothing between them, use no heap and no global, and always return.
+ * (the list is below). The answer of gate_rewrite alone has a kind beside its number. Calls keep nothing between them,
+ * use no heap and no global, and always return.
  *
  * The caller lends byte areas by pointer and length. A pointer is valid for its length, of any alignment, and is not
- * null, even at length 0. An area that is written (state, answer) overlaps no other area of the call, and nobody else
- * touches it during the call; line and record are only read, may overlap each other, and nobody writes to them during
- * the call. Any length and any content is answered.
+ * null, even at length 0. An area that is written (state, answer, out) overlaps no other area of the call, and nobody
+ * else touches it during the call; line and record are only read, may overlap each other, and nobody writes to them
+ * during the call. Any length and any content is answered.
  *
  * SPDX-License-Identifier: MIT
  */
@@ -87,6 +88,20 @@ enum sorter_gate_answer {
 /* end answers */
 
 /*
+ * An answer that has a kind is kind * 2^32 + number; the macros take it apart. (They are macros with an argument:
+ * SORTER_GATE_KIND with no parenthesis behind it is question 13, as above.)
+ */
+/* begin kinds: made by tests/tables from tables/kinds.ini */
+enum sorter_gate_kind {
+    SORTER_GATE_DONE = 0,    /* the number is the length written */
+    SORTER_GATE_REFUSED = 1, /* the number is the question that was answered with no */
+    SORTER_GATE_SHORT = 2    /* the number is the length that is needed */
+};
+#define SORTER_GATE_KIND(answer) ((answer) / UINT64_C(4294967296))
+#define SORTER_GATE_NUMBER(answer) ((answer) % UINT64_C(4294967296))
+/* end kinds */
+
+/*
  * Puts questions 1 to 6 to a line file. Changes nothing.
  */
 uint32_t gate_load_check(const uint8_t *line, size_t line_len);
@@ -105,6 +120,15 @@ uint32_t gate_fresh(const uint8_t *line, size_t line_len, uint8_t *state, size_t
  */
 uint32_t gate_operate(const uint8_t *line, size_t line_len, uint8_t *state, size_t state_len, const uint8_t *record,
                       size_t record_len, uint8_t *answer, size_t answer_len);
+
+/*
+ * Loads a line file and writes the line that was loaded into `out`: an accepted file comes out byte for byte. The
+ * answer has a kind. Done: the first n bytes of `out` are the file, n being the number, and every byte from n on is as
+ * it was. Refused: the number is the first of questions 1 to 6 that is answered with no. Short: the file is accepted,
+ * and `out` has fewer bytes than the number. Refused and short leave `out` as it was. An area of exactly n bytes is
+ * long enough, and one of 0 bytes asks for n.
+ */
+uint64_t gate_rewrite(const uint8_t *line, size_t line_len, uint8_t *out, size_t out_len);
 
 #ifdef __cplusplus
 }

@@ -17,7 +17,7 @@ enum { FORBIDDEN = 256 * PAGE, SIGNAL_STACK = 64 * 1024, WRITE_FAULT = 2 };
 struct area areas[AREAS];
 struct trial trial = {"the test itself", ENDS_AT_BORDER, 0, 0};
 
-static const char *const AREA_TEXTS[AREAS] = {"line", "state", "record", "answer"};
+static const char *const AREA_TEXTS[AREAS] = {"line", "state", "record", "answer", "out"};
 static const char *const PLACE_TEXTS[PLACES] = {"end", "begin"};
 static uint8_t signal_stack[SIGNAL_STACK];
 
@@ -76,7 +76,7 @@ static void *checked(void *mapping, const char *what) {
 }
 
 static void make_area(enum area_name name) {
-    int permissions = name == STATE || name == ANSWER ? PROT_READ | PROT_WRITE : PROT_READ;
+    int permissions = name == LINE || name == RECORD ? PROT_READ : PROT_READ | PROT_WRITE;
     int memory = memfd_create(area_text(name), 0);
     if (memory < 0 || ftruncate(memory, PAGE)) {
         perror("garbage: memory for an area");

@@ -1,5 +1,5 @@
-// The four byte areas of a call, each with forbidden pages on both sides: who reads or writes beside one, or writes
-// into one that is only to be read, ends the program with a message.
+// The byte areas of the calls, each with forbidden pages on both sides: who reads or writes beside one, or writes into
+// one that is only to be read, ends the program with a message.
 #ifndef AREAS_H
 #define AREAS_H
 
@@ -8,7 +8,7 @@
 
 enum { PAGE = 4096 };
 
-enum area_name { LINE, STATE, RECORD, ANSWER, AREAS };
+enum area_name { LINE, STATE, RECORD, ANSWER, OUT, AREAS };
 
 // Where an area stands in its page: it ends where the forbidden page behind begins, or begins where the one before
 // ends.

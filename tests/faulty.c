@@ -2,16 +2,27 @@
 // each call goes on to the real function, so that all answers are right but for the fault. The environment variable
 // GATE_FAULT names it:
 //   FAULT AREA CALL   an access beside an area, or a change that document 01 does not allow, in one of the calls:
-//                     read-behind, read-before, read-empty, write-into, write-behind, write-before, change-refused or
-//                     change-accepted; line, state, record or answer; load_check, fresh or operate
+//                     read-behind, read-before, read-empty, write-into, write-behind, write-before, change-refused,
+//                     change-accepted or change-short; line, state, record, answer or out; load_check, fresh, operate
+//                     or rewrite
 //   constant NUMBER   every call answers the number and does nothing
 //   accept NUMBER     what is refused by the number is accepted, and nothing is done
-//   never NUMBER      the number is never answered, another in its place
+//   never NUMBER      the number is never answered, by gate_rewrite neither, another in its place
 //   refuse CODE       no record of that code is accepted
 //   place             the answer to some records depends on where the line stands in its page
 //   elsewhere         the calls run on a stack of their own
 //   deep              the calls take much more of the caller's stack
 //   none              no fault
+// Faults of gate_rewrite alone:
+//   always ANSWER     it answers that, and does nothing
+//   past              it clears the byte behind the file
+//   last              it puts another last byte down
+//   exact             it finds an area of just the length too short
+//   less              it tells one byte less than it needs
+//   more              it tells one byte more than it wrote
+//   question          it refuses by the next question
+//   let-by            it takes a line that it refuses for one that it wrote
+//   deep-rewrite      it alone takes much more of the caller's stack
 #define _GNU_SOURCE
 #include <stdio.h>
 #include <stdlib.h>
@@ -24,12 +35,14 @@ uint32_t __real_gate_load_check(const uint8_t *line, size_t line_len);
 uint32_t __real_gate_fresh(const uint8_t *line, size_t line_len, uint8_t *state, size_t state_len);
 uint32_t __real_gate_operate(const uint8_t *line, size_t line_len, uint8_t *state, size_t state_len,
                              const uint8_t *record, size_t record_len, uint8_t *answer, size_t answer_len);
+uint64_t __real_gate_rewrite(const uint8_t *line, size_t line_len, uint8_t *out, size_t out_len);
 uint32_t __wrap_gate_load_check(const uint8_t *line, size_t line_len);
 uint32_t __wrap_gate_fresh(const uint8_t *line, size_t line_len, uint8_t *state, size_t state_len);
 uint32_t __wrap_gate_operate(const uint8_t *line, size_t line_len, uint8_t *state, size_t state_len,
                              const uint8_t *record, size_t record_len, uint8_t *answer, size_t answer_len);
+uint64_t __wrap_gate_rewrite(const uint8_t *line, size_t line_len, uint8_t *out, size_t out_len);
 
-enum { AREAS = 4, PAGE = 4096, OWN_STACK = 256 * 1024, DEEP = 8 * 1024 };
+enum { AREAS = 5, PAGE = 4096, OWN_STACK = 256 * 1024, DEEP = 8 * 1024, DEEPER = 16 * 1024 };
 
 // The areas of a call; the calls that have fewer leave the others out.
 struct lent {
@@ -40,8 +53,8 @@ struct lent {
 
 struct call {
     const char *name;
-    struct lent areas[AREAS];
-    uint32_t number;
+    struct lent areas[AREAS]; // line, state, record, answer, out
+    uint64_t answer;
 };
 
 static char fault[16], area[16], call_name[16];
@@ -76,15 +89,54 @@ static void touch_beside(struct lent lent) {
     }
 }
 
+static int rewrites(const struct call *call) {
+    return call->areas[4].at != NULL;
+}
+
+// What became of the call, which for all but gate_rewrite its number tells.
+static enum sorter_gate_kind kind_of(const struct call *call) {
+    if (rewrites(call)) {
+        return (enum sorter_gate_kind)SORTER_GATE_KIND(call->answer);
+    }
+    return call->answer ? SORTER_GATE_REFUSED : SORTER_GATE_DONE;
+}
+
 // The change that the fault is, after the real call.
-static void change(struct lent lent, uint32_t number) {
+static void change(struct lent lent, enum sorter_gate_kind kind) {
     if (is("write-behind")) {
         lent.at[lent.length] = 1;
     } else if (is("write-before")) {
         lent.at[-1] ^= 1;
-    } else if (((is("change-refused") && number) || (is("change-accepted") && !number)) && lent.length > 0) {
+    } else if (((is("change-refused") && kind == SORTER_GATE_REFUSED) ||
+                (is("change-accepted") && kind == SORTER_GATE_DONE) ||
+                (is("change-short") && kind == SORTER_GATE_SHORT)) &&
+               lent.length > 0) {
         lent.at[lent.length - 1] ^= 1;
     }
+}
+
+// Another number of a refusal.
+static uint64_t other_than(uint64_t number) {
+    return number % SORTER_GATE_IN_REACH + 1;
+}
+
+// The faults of gate_rewrite, after the real call.
+static void spoil_rewriting(struct call *call) {
+    const struct lent *out = &call->areas[4];
+    enum sorter_gate_kind kind = kind_of(call);
+    size_t number = SORTER_GATE_NUMBER(call->answer);
+    if (is("past") && kind == SORTER_GATE_DONE && out->length > number) {
+        out->at[number] = 0;
+    }
+    if (is("last") && kind == SORTER_GATE_DONE) {
+        out->at[number - 1] ^= 1;
+    }
+    if (is("never") && kind == SORTER_GATE_REFUSED && number == wanted_number()) {
+        call->answer += other_than(number) - number;
+    }
+    call->answer = is("let-by") && kind == SORTER_GATE_REFUSED ? number : call->answer;
+    call->answer -= is("less") && kind == SORTER_GATE_SHORT;
+    call->answer += (is("more") && kind == SORTER_GATE_DONE) || (is("question") && kind == SORTER_GATE_REFUSED);
 }
 
 static const struct lent *faulty_area(const struct call *call) {
@@ -100,13 +152,16 @@ static const struct lent *faulty_area(const struct call *call) {
 static void go_on(struct call *call) {
     const struct lent *a = call->areas;
     const uint8_t *line = (const uint8_t *)a[0].at, *record = (const uint8_t *)a[2].at;
-    uint8_t *state = (uint8_t *)a[1].at;
-    if (!state) {
-        call->number = __real_gate_load_check(line, a[0].length);
+    uint8_t *state = (uint8_t *)a[1].at, *out = (uint8_t *)a[4].at;
+    if (out) {
+        size_t length = a[4].length - (is("exact") && a[4].length > 0);
+        call->answer = __real_gate_rewrite(line, a[0].length, out, length);
+    } else if (!state) {
+        call->answer = __real_gate_load_check(line, a[0].length);
     } else if (!record) {
-        call->number = __real_gate_fresh(line, a[0].length, state, a[1].length);
+        call->answer = __real_gate_fresh(line, a[0].length, state, a[1].length);
     } else {
-        call->number = __real_gate_operate(line, a[0].length, state, a[1].length, record, a[2].length,
+        call->answer = __real_gate_operate(line, a[0].length, state, a[1].length, record, a[2].length,
                                            (uint8_t *)a[3].at, a[3].length);
     }
 }
@@ -129,18 +184,18 @@ static void go_elsewhere(struct call *call) {
     swapcontext(&here, &there);
 }
 
-static void go_deep(struct call *call) {
-    volatile uint8_t more[DEEP];
+static __attribute__((noinline)) void go_deep(struct call *call, size_t bytes) {
+    volatile uint8_t more[bytes];
     more[0] = 0;
     go_on(call);
-    more[DEEP - 1] = more[0];
+    more[bytes - 1] = more[0];
 }
 
-static uint32_t spoilt(struct call *call) {
+static uint64_t spoilt(struct call *call) {
     const struct lent *record = &call->areas[2];
     const struct lent *lent = faulty_area(call);
-    if (is("constant")) {
-        return (uint32_t)wanted_number();
+    if (is("constant") || (is("always") && rewrites(call))) {
+        return wanted_number();
     }
     if (is("refuse") && record->length > 0 && record->at[0] == wanted_number()) {
         return SORTER_GATE_RECORD;
@@ -154,30 +209,33 @@ static uint32_t spoilt(struct call *call) {
     if (is("elsewhere")) {
         go_elsewhere(call);
     } else if (is("deep")) {
-        go_deep(call);
+        go_deep(call, DEEP);
+    } else if (is("deep-rewrite") && rewrites(call)) {
+        go_deep(call, DEEPER);
     } else {
         go_on(call);
     }
     if (lent) {
-        change(*lent, call->number);
+        change(*lent, kind_of(call));
     }
-    if (call->number == wanted_number() && is("accept")) {
+    if (rewrites(call)) {
+        spoil_rewriting(call);
+    } else if (call->answer == wanted_number() && is("accept")) {
         return SORTER_GATE_ACCEPTED;
+    } else if (call->answer == wanted_number() && is("never")) {
+        return other_than(call->answer);
     }
-    if (call->number == wanted_number() && is("never")) {
-        return call->number % SORTER_GATE_IN_REACH + 1;
-    }
-    return call->number;
+    return call->answer;
 }
 
 uint32_t __wrap_gate_load_check(const uint8_t *line, size_t line_len) {
     struct call call = {"load_check", {{"line", (uint8_t *)line, line_len}}, 0};
-    return spoilt(&call);
+    return (uint32_t)spoilt(&call);
 }
 
 uint32_t __wrap_gate_fresh(const uint8_t *line, size_t line_len, uint8_t *state, size_t state_len) {
     struct call call = {"fresh", {{"line", (uint8_t *)line, line_len}, {"state", state, state_len}}, 0};
-    return spoilt(&call);
+    return (uint32_t)spoilt(&call);
 }
 
 uint32_t __wrap_gate_operate(const uint8_t *line, size_t line_len, uint8_t *state, size_t state_len,
@@ -188,5 +246,10 @@ uint32_t __wrap_gate_operate(const uint8_t *line, size_t line_len, uint8_t *stat
                          {"record", (uint8_t *)record, record_len},
                          {"answer", answer, answer_len}},
                         0};
+    return (uint32_t)spoilt(&call);
+}
+
+uint64_t __wrap_gate_rewrite(const uint8_t *line, size_t line_len, uint8_t *out, size_t out_len) {
+    struct call call = {"rewrite", {[0] = {"line", (uint8_t *)line, line_len}, [4] = {"out", out, out_len}}, 0};
     return spoilt(&call);
 }

@@ -1,8 +1,9 @@
-// Throws random and mutated inputs of every length at the three functions, twice: in the first pass each area ends
-// where a forbidden page begins, in the second each begins where one ends, and line and record cannot be written. So a
-// byte that is read or written beside an area is seen. A refusal leaves state and answer area as they were, an accepted
-// call leaves what document 01 says; the same inputs get the same answers in both passes; and in each pass every number
-// is answered, every code is accepted and every area is empty at least once.
+// Throws random and mutated inputs of every length at the four functions, twice: in the first pass each area ends where
+// a forbidden page begins, in the second each begins where one ends, and line and record cannot be written. So a byte
+// that is read or written beside an area is seen. A refusal leaves state and answer area as they were, an accepted call
+// leaves what document 01 says; the same inputs get the same answers in both passes; and in each pass every number is
+// answered, every code is accepted and every area is empty at least once. (tests/rewriting.c holds the function that
+// writes lines to what it must answer and leave.)
 //   garbage TIMES SEED   makes TIMES calls in each pass; prints how often each number came, and each code was accepted;
 //                        to be called in the repository's root
 #include <stdio.h>
@@ -12,11 +13,13 @@
 #include "areas.h"
 #include "effect.h"
 #include "inputs.h"
+#include "rewriting.h"
 #include "sorter_gate.h"
 
 // A session is a fresh state and the calls after it, on one sound line.
 enum { NUMBERS = 21, CODES = 13, SESSION = 256 };
 
+// The calls that judge: their answer is a number alone.
 enum call { LOAD_CHECK, FRESH, OPERATE, CALLS };
 
 // For each its name, the last question that it puts, and how many of the areas it takes, the first ones.
@@ -26,12 +29,13 @@ static const int TAKES[CALLS] = {LINE + 1, STATE + 1, ANSWER + 1};
 
 struct tally {
     unsigned long numbers[NUMBERS], codes[CODES], empty[CALLS][AREAS];
+    struct rewritings rewritings;
 };
 
 // The answers of the first pass, one after the other.
 static uint8_t *first_answers;
 
-// The sound line of the session, and how many calls were made since its last fresh state.
+// The sound line of the session, and how many calls on its state were made since the last fresh one.
 static uint8_t sound[MOST_LINE];
 static size_t sound_length, step;
 
@@ -114,7 +118,7 @@ static uint32_t checked_call(enum call call, struct tally *tally) {
     for (int name = LINE; name < TAKES[call]; name++) {
         tally->empty[call][name] += areas[name].length == 0;
     }
-    step++;
+    step += call != LOAD_CHECK;
     uint32_t number = make_call(call);
     if (number > LAST_NUMBERS[call]) {
         complain("answered %u, which is none of its numbers", number);
@@ -152,6 +156,11 @@ static void go_on(struct tally *tally) {
     size_t kind = below(64);
     enum call call = kind < 2 ? LOAD_CHECK : kind < 4 ? FRESH : OPERATE;
     put(LINE, bytes, any_line(sound, sound_length, bytes));
+    if (kind >= 56) {
+        spoil_line();
+        checked_rewriting(checked_call(LOAD_CHECK, tally), &tally->rewritings);
+        return;
+    }
     size_t record_length = below(8) ? opening_record(sound, step, bytes) : 0;
     put(RECORD, bytes, record_length ? record_length : any_record(sound, bytes));
     areas[STATE].length = call == FRESH && below(4) ? below(2) * below(PAGE) : some_length(SORTER_GATE_STATE_BYTES);
@@ -186,6 +195,7 @@ static void demand(const struct tally *tally) {
             }
         }
     }
+    demand_rewritings(&tally->rewritings);
 }
 
 // The same inputs in each pass.
@@ -232,5 +242,6 @@ int main(int argc, char **argv) {
     for (int code = 1; code < CODES; code++) {
         printf("code %d accepted %lu\n", code, tallies[0].codes[code]);
     }
+    print_rewritings(&tallies[0].rewritings);
     return 0;
 }

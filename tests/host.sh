@@ -1,5 +1,5 @@
 #!/usr/bin/env bash
-# The library from the host's side: the C controller; a million random and mutated inputs, each with its areas against
+# The library from the host's side: the C controllers; a million random and mutated inputs, each with its areas against
 # forbidden pages, once at their ends and once at their beginnings; and the same test over libraries with a fault, each
 # of which it must tell. (`make check` has the Rust binding.)
 #   host.sh [TIMES [SEED]]
@@ -12,7 +12,7 @@ trap 'rm -rf "$out"' EXIT
 # The sanitizers watch the test's own code alone: the library is not built for them.
 flags=(-std=c11 -O2 -Wall -Wextra -Werror -Iinclude -g -fsanitize=address,undefined)
 parts=()
-for name in garbage areas effect inputs faulty; do
+for name in garbage areas effect inputs rewriting faulty; do
     gcc "${flags[@]}" -c -o "$out/$name.o" "tests/$name.c"
     [ $name = faulty ] || parts+=("$out/$name.o")
 done
@@ -20,7 +20,7 @@ gcc "${flags[@]}" -o "$out/garbage" "${parts[@]}" target/staticlib/libgate.a
 "$out/garbage" "${1:-1000000}" "${2:-1}"
 
 gcc "${flags[@]}" -o "$out/faulty" "${parts[@]}" "$out/faulty.o" target/staticlib/libgate.a \
-    -Wl,--wrap=gate_load_check,--wrap=gate_fresh,--wrap=gate_operate
+    -Wl,--wrap=gate_load_check,--wrap=gate_fresh,--wrap=gate_operate,--wrap=gate_rewrite
 few=20000
 seen=0
 
@@ -59,6 +59,35 @@ stray_changes() {
     must_tell "change-accepted $1 $2" "gate_$2 $accepted [0-9]+"
 }
 
+# What gate_rewrite may not do to its area, by the kind of its answer.
+stray_rewriting() {
+    local wrote="wrote ([0-9]+) bytes, and"
+    local unwritten="refused by [0-9]+, and changed the out|found the out too short, and changed it"
+    must_tell "write-behind out rewrite" "gate_rewrite wrote at place ([0-9]+) of the out, which has \1 bytes"
+    must_tell "write-before out rewrite" "gate_rewrite ($unwritten|$wrote changed the out) at place -1"
+    must_tell "change-refused out rewrite" "gate_rewrite refused by [0-9]+, and changed the out at place [0-9]+"
+    must_tell "change-short out rewrite" "gate_rewrite found the out too short, and changed it at place [0-9]+"
+    must_tell "change-accepted out rewrite" "gate_rewrite $wrote (changed the out|not the line's) at place [0-9]+"
+    must_tell "past" "gate_rewrite $wrote changed the out at place \1"
+    must_tell "last" "gate_rewrite $wrote not the line's at place [0-9]+"
+}
+
+# What gate_rewrite may not answer.
+wrong_rewriting() {
+    must_tell "exact" "gate_rewrite found ([0-9]+) bytes too few for a line of \1"
+    must_tell "less" "gate_rewrite told that it needs [0-9]+ bytes for a line of [0-9]+"
+    must_tell "more" "gate_rewrite told that it wrote [0-9]+ bytes of a line of [0-9]+"
+    must_tell "question" "gate_rewrite refused by [2-7] a line to which a load check answers [1-6]"
+    must_tell "let-by" "gate_rewrite did not refuse a line that a load check refuses by [1-6]"
+    # A constant: done with 0 bytes, refused by 3 and by none, 45 bytes needed, and a kind that there is not.
+    must_tell "always 0" "gate_rewrite (wrote a line of [0-9]+ bytes into|told that it wrote 0 bytes of .*) [0-9]+"
+    must_tell "always $((1 << 32 | 3))" "gate_rewrite refused by 3 a line to which a load check answers [^3]"
+    must_tell "always $((1 << 32))" "gate_rewrite refused by 0 a line to which a load check answers [0-9]"
+    must_tell "always $((2 << 32 | 45))" \
+        "gate_rewrite (found [0-9]+ bytes too few for|told that it needs 45 bytes for|did not refuse) a line .*"
+    must_tell "always $((3 << 32))" "gate_rewrite answered the kind 3, which there is not"
+}
+
 # Without a fault the few inputs are enough to pass.
 GATE_FAULT=none "$out/faulty" $few 1 > "$out/rows"
 for area in line state record answer; do
@@ -67,13 +96,17 @@ done
 stray_reads line load_check
 stray_reads line fresh
 stray_reads state fresh
-for call in load_check fresh operate; do
+stray_reads line rewrite
+stray_reads out rewrite
+for call in load_check fresh operate rewrite; do
     stray_stores line $call
 done
 stray_stores record operate
 stray_changes state fresh
 stray_changes state operate
 stray_changes answer operate
+stray_rewriting
+wrong_rewriting
 must_tell "constant 0" "gate_fresh accepted \(0\), and did not leave the state as document 01 says at place [0-9]+"
 must_tell "constant 7" "gate_fresh refused a fresh state of a sound line by 7"
 must_tell "constant 10" "gate_fresh answered 10, which is none of its numbers"

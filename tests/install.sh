@@ -9,19 +9,21 @@ trap 'rm -rf "$out"' EXIT
 # What the caller's environment or an outer make would say about the places.
 unset MAKEFLAGS MFLAGS DESTDIR PREFIX LIBDIR INCLUDEDIR
 
-# As docs/CONTROLLER.md tells the reader; the repository's own header is not on the path. Both programs end with 1 if a
+# As docs/CONTROLLER.md tells the reader; the repository's own header is not on the path. Each program ends with 1 if a
 # step does not go as it should. pkg-config writes a blank as the shell reads it, hence the eval.
+line=crates/office/data/line.bin
 controllers() {
     words=$(PKG_CONFIG_PATH=$1/lib/pkgconfig pkg-config --cflags --libs sorter_gate)
     rows=0
     for compiler in "gcc -std=c11" "g++ -x c++"; do
-        for name in main restore; do
+        for name in main restore save; do
             cp "examples/controller/$name.c" "$out"
             (cd "$out" && eval "$compiler -O2 -Wall -Wextra -Werror $name.c -x none $words -o $name")
         done
-        rm -f "$out/state.bin"
-        # Two starts of the controller that stores its area.
-        if ! ("$out/main" && "$out/restore" "$out/state.bin" && "$out/restore" "$out/state.bin") > "$out/rows" ||
+        rm -f "$out/state.bin" "$out/line.out"
+        # A line saved, and two starts of the controller that stores its area.
+        if ! ("$out/main" && "$out/save" "$line" "$out/line.out" && "$out/restore" "$out/state.bin" &&
+            "$out/restore" "$out/state.bin") > "$out/rows" || ! cmp "$line" "$out/line.out" ||
             ! tail -n 5 "$out/rows" | grep -q '^14  create partition 1$'; then
             echo "install: a step of the controllers does not go as it should:" >&2
             cat "$out/rows" >&2
@@ -54,11 +56,32 @@ END
     fi
 }
 
+# The installed header takes an answer with a kind apart, in C and in C++, whatever stands around it; and the name of
+# the macro is still that of a question where no argument follows.
+kinds() {
+    cat > "$out/kinds.c" << 'END'
+#include <sorter_gate.h>
+#define HOLDS(name, what) typedef char name[(what) ? 1 : -1]
+#define NEEDED UINT64_C(2) << 32 | 45
+HOLDS(kind, SORTER_GATE_KIND(NEEDED) == SORTER_GATE_SHORT);
+HOLDS(number, SORTER_GATE_NUMBER(NEEDED) == 45);
+HOLDS(inside, 90 / SORTER_GATE_NUMBER(NEEDED) == 2 && 4 / SORTER_GATE_KIND(NEEDED) == 2);
+HOLDS(refused, SORTER_GATE_KIND(UINT64_C(1) << 32 | 6) == SORTER_GATE_REFUSED);
+HOLDS(done, SORTER_GATE_KIND(45) == SORTER_GATE_DONE && sizeof SORTER_GATE_NUMBER(45) == sizeof(uint64_t));
+HOLDS(largest, SORTER_GATE_KIND(UINT64_MAX) == UINT32_MAX && SORTER_GATE_NUMBER(UINT64_MAX) == UINT32_MAX);
+HOLDS(question, SORTER_GATE_KIND == 13);
+END
+    for compiler in "gcc -std=c11" "g++ -x c++"; do
+        $compiler -Wall -Wextra -Werror -fsyntax-only -I"$1/include" "$out/kinds.c"
+    done
+}
+
 # install_twice PREFIX STAGE: into the prefix, and below a DESTDIR
 install_twice() {
     make -s install PREFIX="$1"
     controllers "$1"
     versions "$1"
+    kinds "$1"
     make -s install DESTDIR="$2" PREFIX="$1"
     diff -r "$1" "$2$1"
     grep -qx "prefix=$1" "$2$1/lib/pkgconfig/sorter_gate.pc"

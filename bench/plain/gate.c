@@ -1,4 +1,4 @@
-// The three calls, in the order of document 01's questions, and what an accepted operation does.
+// The calls that judge, in the order of document 01's questions, and what an accepted operation does.
 #include "parts.h"
 #include "plain.h"
 

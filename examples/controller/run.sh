@@ -1,13 +1,28 @@
 #!/usr/bin/env bash
-# Builds the library and the controller, and runs it: once as it is, once under AddressSanitizer.
+# Builds the library and the controllers that need no file of their own, and runs them: once as they are, once under
+# AddressSanitizer. The line that is saved must be the one that was loaded, and a refused one must not be saved.
 set -euo pipefail
 cd "$(dirname "$0")/../.."
 out=$(mktemp -d)
 trap 'rm -rf "$out"' EXIT
 make -s lib
 flags="-std=c11 -O2 -Wall -Wextra -Werror -Iinclude"
-gcc $flags -o "$out/plain" examples/controller/main.c target/staticlib/libgate.a
-gcc $flags -g -fsanitize=address,undefined -o "$out/checked" examples/controller/main.c target/staticlib/libgate.a
-"$out/plain"
-"$out/checked" > "$out/second"
-"$out/plain" | cmp - "$out/second"
+for name in main save; do
+    gcc $flags -o "$out/$name" "examples/controller/$name.c" target/staticlib/libgate.a
+    gcc $flags -g -fsanitize=address,undefined -o "$out/$name-checked" "examples/controller/$name.c" \
+        target/staticlib/libgate.a
+done
+"$out/main"
+"$out/main-checked" > "$out/second"
+"$out/main" | cmp - "$out/second"
+line=crates/office/data/line.bin
+for name in save save-checked; do
+    "$out/$name" "$line" "$out/saved" > "$out/rows"
+    cmp "$line" "$out/saved"
+    rm "$out/saved"
+    if "$out/$name" examples/questions/06/line.bin "$out/saved" >> "$out/rows" || [ -e "$out/saved" ]; then
+        echo "controller: a line that is refused is saved" >&2
+        exit 1
+    fi
+done
+sed "s|$out/||" "$out/rows"

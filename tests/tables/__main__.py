@@ -15,7 +15,7 @@ from data import ROOT, Fault, questions  # noqa: E402
 from parts import PARTS, made_text, stored  # noqa: E402
 from prototypes import check_prototypes  # noqa: E402
 from release import check_release  # noqa: E402
-from ties import check_codes, check_figures, check_numbers, check_questions  # noqa: E402
+from ties import check_codes, check_figures, check_kinds, check_numbers, check_questions  # noqa: E402
 from words import check_words  # noqa: E402
 
 
@@ -29,6 +29,7 @@ def check():
     check_questions()
     check_words()
     check_codes()
+    check_kinds()
     check_prototypes()
     check_release()
     check_figures()

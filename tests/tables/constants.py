@@ -1,4 +1,4 @@
-"""Constants as the sources write them down, worked out: of Rattle and Rust, of C, of Python."""
+"""Constants as the sources write them down, worked out: of Rattle and Rust, of the model, of C, of Python."""
 import ast
 import re
 
@@ -37,6 +37,14 @@ def of_source(path, name):
     if name not in made:
         raise Fault(f"{path} has no constant {name}")
     return worked_out(made[name], lambda other: of_source(path, other))
+
+
+def of_model(path, name):
+    """A constant of the model, which is a definition that is a number."""
+    found = re.findall(rf"^{name} = (\d+)$", text_of(path), re.MULTILINE)
+    if len(found) != 1:
+        raise Fault(f"{path} does not define {name} once, as a number")
+    return int(found[0])
 
 
 def of_header(path, name):

@@ -8,7 +8,8 @@ GROUPS = ("line", "areas", "record", "operation")
 QUESTION_KEYS = {"group", "constant", "asked", "asks", "means", "definition", "header", "rust", "plan", "machine",
                  "remedy"}
 CODE_KEYS = {"does", "who", "fields", "manual", "plan"}
-NUMBER_KEYS = {"is", "rattle", "reference", "sum", "header", "rust", "says", "python", "plan"}
+NUMBER_KEYS = {"is", "rattle", "model", "reference", "sum", "header", "rust", "says", "python", "plan"}
+KIND_KEYS = {"is", "model", "case", "number", "area"}
 
 
 class Fault(Exception):
@@ -43,6 +44,18 @@ def places(name, keys, optional=()):
 
 def codes():
     return places("codes.ini", CODE_KEYS)
+
+
+def kinds():
+    """The kinds of an answer by their names, in order; only a kind of 0 may have no constant of the writer."""
+    rows = dict(sorted(read("kinds.ini").items(), key=lambda row: int(row[1]["is"])))
+    if [int(row["is"]) for row in rows.values()] != list(range(len(rows))):
+        raise Fault(f"tables/kinds.ini: the kinds are not the numbers 0 to {len(rows) - 1}")
+    for name, row in rows.items():
+        wanted = KIND_KEYS | ({"writer"} if int(row["is"]) else set())
+        if row.keys() != wanted or not all(row.values()):
+            raise Fault(f"tables/kinds.ini, {name}: a key is missing, empty or unknown: {sorted(row.keys() ^ wanted)}")
+    return rows
 
 
 def questions():

@@ -7,7 +7,7 @@ and one that says `end NAME`, in the comment form of its file.
 import re
 import textwrap
 
-from data import GROUPS, ROOT, Fault, codes, example_module, examples, questions, read
+from data import GROUPS, ROOT, Fault, codes, example_module, examples, kinds, numbers, questions, read
 from release import version_of_header
 
 COLUMNS, PAGE = 120, 118
@@ -94,6 +94,29 @@ def codes_of_rust():
     return made[:-1]
 
 
+def kinds_of_header():
+    """The kinds, and the macros that take an answer apart."""
+    rows, unit = kinds(), numbers()["kind_unit"]
+    names = [f"SORTER_GATE_{name.upper()} = {row['is']}," for name, row in rows.items()]
+    names[-1] = names[-1][:-1]
+    width = max(map(len, names))
+    return ["enum sorter_gate_kind {"] + [f"    {name:<{width}} /* the number is {row['number']} */"
+                                          for name, row in zip(names, rows.values())] + [
+        "};", f"#define SORTER_GATE_KIND(answer) ((answer) / UINT64_C({unit}))",
+        f"#define SORTER_GATE_NUMBER(answer) ((answer) % UINT64_C({unit}))"]
+
+
+def kinds_of_rust():
+    made = [f"const KIND_UNIT: u64 = {numbers()['kind_unit']};"]
+    return made + [f"const {name.upper()}: u64 = {row['is']};" for name, row in kinds().items()]
+
+
+def kinds_of_controller():
+    made = ["", "| Kind | `SORTER_GATE_` | The number | What `gate_rewrite` leaves in `out` |", "|---|---|---|---|"]
+    made += [f"| {row['is']} | `{name.upper()}` | {row['number']} | {row['area']} |" for name, row in kinds().items()]
+    return made + [""]
+
+
 def texts_of_rust():
     rows = sorted(questions().items())
     return [f"const TEXTS: [&str; {len(rows)}] = ["] + [f"    {quoted(row['rust'])}," for _, row in rows] + ["];"]
@@ -174,12 +197,14 @@ def line_of_examples():
 
 PARTS = {
     "include/sorter_gate.h": {"version": version_of_header, "sizes": sizes_of_header, "codes": codes_of_header,
-                              "answers": enum_of_header},
+                              "answers": enum_of_header, "kinds": kinds_of_header},
     "bindings/rust/src/lib.rs": {"sizes": sizes_of_rust},
     "bindings/rust/src/code.rs": {"codes": codes_of_rust},
     "bindings/rust/src/refusal.rs": {"texts": texts_of_rust},
+    "bindings/rust/src/rewriting.rs": {"kinds": kinds_of_rust},
     "tools/planner/wording.py": {"limits": limits_of_plan, "codes": codes_of_plan, "questions": questions_of_plan},
-    "docs/CONTROLLER.md": {"records": records_of_controller, "answers": answers_of_controller},
+    "docs/CONTROLLER.md": {"records": records_of_controller, "answers": answers_of_controller,
+                           "kinds": kinds_of_controller},
     "docs/QUESTIONS.md": {"example": line_of_examples,
                           **{group: lambda group=group: page_of_questions(group) for group in GROUPS}},
 }

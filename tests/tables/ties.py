@@ -2,18 +2,24 @@
 the figures in texts that are written by hand."""
 import re
 
-from constants import of_header, of_python, of_source, text_of, worked_out
-from data import NUMBER_KEYS, ROOT, Fault, codes, numbers, questions, read
+from constants import of_header, of_model, of_python, of_source, text_of, worked_out
+from data import NUMBER_KEYS, ROOT, Fault, codes, kinds, numbers, questions, read
 from parts import PARTS, span
 
 SPECS = "crates/model/specs"
 CODES = "crates/operation/src/codes.rt"
+KINDS_MODEL = f"{SPECS}/Rewriting.antt"
+KINDS_CODE = "crates/writer/src/lib.rt"
+# How the model puts kind and number together, which header and binding take apart again.
+CODED = "coded w = kindOfAnswer w * kindUnit + numberOfAnswer w"
 # What crates/operation calls what the planner's tables call otherwise.
 FAMILIES = {"Write": "write", "Copy": "read", "Create": "create", "Destroy": "destroy", "Activate": "activate",
             "Deactivate": "deactivate"}
 ACTORS = {"Driver": "driver", "Device": "card", "External": "nobody"}
 READERS = {"Item": "who, items", "Pair": "who, pairs", "read_partition": "where", "read_activation": "who, where",
            "Object": "where, objects", "read_deactivation": "who"}
+# The model's file in which the writer puts its questions, how, and how the table says of a question that it does.
+WRITER, WRITTEN, WRITER_PUTS = f"{SPECS}/ConfigWrite.antt", re.compile(r"\baskFirst (\d+) \("), "The writer puts it "
 # A figure of a manual: three digits or more, or with a comma.
 FIGURE = re.compile(r"(?<![\w.])\d{1,3}(?:,\d{3})+(?!\w)|(?<![\w.,])\d{3,}(?!\w)")
 CONSOLE = re.compile(r"^```console[^\n]*\n.*?^```$", re.DOTALL | re.MULTILINE)
@@ -32,6 +38,9 @@ def check_numbers():
         if "rattle" in row:
             crate, constant = row["rattle"].split()
             seen[f"crates/{crate}/src/lib.rt"] = of_source(f"crates/{crate}/src/lib.rt", constant)
+        if "model" in row:
+            file, constant = row["model"].split()
+            seen[f"{SPECS}/{file}.antt"] = of_model(f"{SPECS}/{file}.antt", constant)
         if "reference" in row:
             seen["reference/src/limits.rs"] = of_source("reference/src/limits.rs", row["reference"])
         if "sum" in row:
@@ -66,6 +75,15 @@ def check_questions():
         for number in re.findall(r"\bask (\d+) \(", path.read_text(encoding="utf-8")):
             if int(number) not in rows:
                 raise Fault(f"{SPECS}/{path.name} puts question {number}, which tables/questions.ini does not have")
+    check_writer(rows)
+
+
+def check_writer(rows):
+    """What the table says of the writer: it puts just those questions that it puts in the model."""
+    real = {int(number) for number in WRITTEN.findall(text_of(WRITER))}
+    told = {number for number, row in rows.items() if WRITER_PUTS in row["means"]}
+    if not real or real != told:
+        raise Fault(f"tables/questions.ini: the writer puts {sorted(told)}; by {WRITER} it puts {sorted(real)}")
 
 
 def arms(function):
@@ -99,6 +117,24 @@ def check_codes():
             raise Fault(f"tables/codes.ini, {code}: {CODES} has {real}")
     if chosen("arguments", len(rows) + 1) in READERS:
         raise Fault(f"{CODES} reads code {len(rows) + 1}, which tables/codes.ini does not have")
+
+
+def check_kinds():
+    """Each kind is the model's and the writer's, of the case that the table names; the model has no other, and puts an
+    answer together as it is taken apart."""
+    text, rows = text_of(KINDS_MODEL), kinds()
+    cases = dict(re.findall(r"^kindOfAnswer \((\w+) \w+\) = (\w+)$", text, re.MULTILINE))
+    if cases != {row["case"]: row["model"] for row in rows.values()}:
+        raise Fault(f"tables/kinds.ini has other cases than {KINDS_MODEL}: {cases}")
+    if CODED not in text.splitlines():
+        raise Fault(f"{KINDS_MODEL} does not say '{CODED}'")
+    for name, row in rows.items():
+        seen = {KINDS_MODEL: of_model(KINDS_MODEL, row["model"])}
+        if "writer" in row:
+            seen[KINDS_CODE] = of_source(KINDS_CODE, row["writer"])
+        for place, number in seen.items():
+            if number != int(row["is"]):
+                raise Fault(f"tables/kinds.ini has {row['is']} as {name}, {place} has {number}")
 
 
 def check_figures():

@@ -21,8 +21,10 @@
 
 pub mod code;
 mod refusal;
+mod rewriting;
 
 pub use refusal::Refusal;
+pub use rewriting::RewriteError;
 
 // begin sizes: made by tests/tables from tables/numbers.ini
 /// The length of a state area.
@@ -54,6 +56,7 @@ unsafe extern "C" {
         answer: *mut u8,
         answer_len: usize,
     ) -> u32;
+    fn gate_rewrite(line: *const u8, line_len: usize, out: *mut u8, out_len: usize) -> u64;
 }
 
 /// Puts questions 1 to 6 to a line file.
@@ -95,4 +98,25 @@ pub fn operate(line: &[u8], state: &mut [u8], record: &[u8], answer: &mut [u8]) 
         )
     };
     Refusal::check(number)
+}
+
+/// Loads a line file and writes the line that was loaded into `out`; an accepted file comes out byte for byte. Returns
+/// its length: so many bytes at the start of `out` are the file, and the rest of `out` is as it was. If the file is
+/// refused or `out` is too short, `out` is as it was. An empty `out` asks for the length.
+///
+/// ```
+/// use sorter_gate::{LONGEST_LINE, RewriteError, rewrite};
+///
+/// // A line with one driver and nothing else.
+/// let line = [1, 1, 0, 0, 0];
+/// assert_eq!(rewrite(&line, &mut []), Err(RewriteError::Short(5)));
+/// let mut out = [0; LONGEST_LINE];
+/// let length = rewrite(&line, &mut out)?;
+/// assert_eq!(out[..length], line);
+/// # Ok::<(), RewriteError>(())
+/// ```
+pub fn rewrite(line: &[u8], out: &mut [u8]) -> Result<usize, RewriteError> {
+    // SAFETY: as in `fresh`; `out` is borrowed mutably, so that it does not overlap the line.
+    let answer = unsafe { gate_rewrite(line.as_ptr(), line.len(), out.as_mut_ptr(), out.len()) };
+    RewriteError::check(answer)
 }

@@ -1,4 +1,4 @@
-//! The three calls over document 01's file L.
+//! The calls that judge, over document 01's file L.
 
 use sorter_gate::{ANSWER_BYTES, Refusal, STATE_BYTES, fresh, load_check, operate};
 use std::error::Error;
