@@ -4,7 +4,7 @@
 #   make install PREFIX=/usr  copy it to PREFIX (/usr/local if none is given), below DESTDIR if that is given
 #   make check                lint, try the library from C and Rust, and count it; bash .ci/run proves all anew
 #   make bench                try the gate in plain C against the library, then the tables of docs/PERFORMANCE.md
-#   make dist                 an archive for planners in target/dist: office program, tools/plan, examples, manual
+#   make dist                 an archive for planners in target/dist: both programs, tools/plan, examples, manual
 #   make clean                remove what this file makes, and nothing that rt keeps
 PREFIX ?= /usr/local
 given := $(PREFIX)
@@ -84,15 +84,17 @@ bench: $(library)
 
 # What a planner needs beside Python: no toolchain, no sources. Each archive of the same files is the same, byte for byte.
 dist_name := kolluwar-plan-$(VERSION)
-dist_files := LICENSE judge tools/plan tools/office tools/planner docs/PLANNER.md docs/QUESTIONS.md \
+dist_files := LICENSE judge tools/plan tools/rewrite tools/office tools/planner docs/PLANNER.md docs/QUESTIONS.md \
     $(wildcard docs/page*.png) examples/visit examples/today
 dist:
-	@./judge --program > /dev/null
+	@./judge --program office > /dev/null
+	@./judge --program rewrite > /dev/null
 	@rm -rf target/dist && mkdir -p target/dist/$(dist_name)/target/bin
 	@cp --parents -R $(dist_files) target/dist/$(dist_name)
-	@install -m 755 target/bin/office target/dist/$(dist_name)/target/bin/office
+	@install -m 755 target/bin/office target/bin/rewrite target/dist/$(dist_name)/target/bin
 	@find target/dist -name __pycache__ -prune -exec rm -rf {} +
-	@find target/dist/$(dist_name)/examples \( -name '*.html' -o -name '*.before.*' -o -name timeline.csv \) -delete
+	@find target/dist/$(dist_name)/examples \( -name '*.html' -o -name '*.before.*' -o -name timeline.csv \
+	    -o -name line.out \) -delete
 	@sed 's|@VERSION@|$(VERSION)|' tools/README-dist > target/dist/$(dist_name)/README
 	@cd target/dist && tar --sort=name --mtime='1980-01-01 UTC' --owner=0 --group=0 --numeric-owner --mode=u+rw,go+r-w \
 	    -cf - $(dist_name) | gzip -9n > $(dist_name).tar.gz

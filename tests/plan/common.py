@@ -7,12 +7,13 @@ import tempfile
 import unittest
 from pathlib import Path
 
-from planner import office
+from planner import office, rewriting
 from planner.cli import main
 
 ROOT = Path(__file__).resolve().parents[2]
 GOLDEN = Path(__file__).resolve().parent / "golden"
 PROGRAM = office.find_office()
+REWRITE = rewriting.find_rewrite()
 # Whether what is made is stored as what is expected: for run.py --write to say, and for nobody else.
 WRITE = False
 

@@ -44,6 +44,21 @@ def entries_of(rng, config, values):
         yield Entry(n, mode, rng.randint(0, values) if stores else 0)
 
 
+def largest_line():
+    """As much of everything as a line may have. Its file is the longest that is accepted."""
+    cards, objects, values = (w.LIMITS[name] for name in ("cards", "objects", "values"))
+    places = range(w.LIMITS["entries of a value"])
+    config = Config(drivers={n: f"D{n}" for n in range(1, w.LIMITS["drivers"] + 1)})
+    for n in range(1, objects + 1):
+        config.objects[n] = Object(f"O{n}", w.HARDCODED if n <= cards else w.TRANSFER, w.DEVICE, (n - 1) % cards + 1)
+    for n in range(1, values + 1):
+        own = config.owned(w.DEVICE, n)[1:] if n <= cards else ()
+        config.values[n] = Value(f"V{n}", tuple(Entry(own[k % len(own)], w.READ, 0) if own else
+                                                Entry(objects - k, w.BOTH, values) for k in places))
+    config.devices = {n: Device(f"C{n}", n) for n in range(1, cards + 1)}
+    return config
+
+
 def random_visit(config, seed):
     """Moves that bring most things into service, then write, copy and move them about, some of them nonsense."""
     rng = random.Random(f"visit {seed}")

@@ -49,6 +49,13 @@ class Archive(unittest.TestCase):
         answers = subprocess.run([ROOT / "judge", "examples/visit"], cwd=ROOT, capture_output=True, text=True).stdout
         self.assertEqual(self.typed("./judge"), (1, answers, ""))
 
+    def test_a_line_saved_anew(self):
+        folder = self.root / "examples/visit"
+        self.assertFalse((folder / "line.out").exists())
+        self.assertEqual(self.typed("tools/rewrite examples/visit"), (0, "", ""))
+        self.assertEqual((folder / "line.out").read_bytes(), (folder / "line.bin").read_bytes())
+        (folder / "line.out").unlink()
+
     def test_a_planners_day(self):
         today = "examples/today"
         for line, status, said in (

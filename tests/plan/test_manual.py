@@ -105,7 +105,8 @@ class Manual(InFolder):
         helped, _ = self.run_command("tools/plan --help")
         for name in re.findall(r"^    (\w+) ", helped, re.MULTILINE):
             self.assertRegex(self.text, rf"(?m)^\$ tools/plan {name} ")
-        self.assertEqual(re.findall(r"(?m)^(?: {4,}|\t)\S*(?:tools/plan|\./judge).*", FENCE.sub("", self.text)), [])
+        untried = r"(?m)^(?: {4,}|\t)\S*(?:tools/plan|tools/rewrite|\./judge).*"
+        self.assertEqual(re.findall(untried, FENCE.sub("", self.text)), [])
 
     def test_statuses_are_those_of_the_help(self):
         helped, _ = self.run_command("tools/plan --help")
@@ -123,6 +124,7 @@ class Manual(InFolder):
         wanted["bytes of what an object holds"] = w.CONTENT_BYTES
         self.assertEqual({name: int(most.replace(",", "")) for name, most in rows}, wanted)
         self.assertEqual(set(w.LIMITS) - set(names.values()), {"bytes of line.bin", "a number"})
+        self.assertIn(f"`long` if the file has more than {w.LIMITS['bytes of line.bin']:,} bytes", self.text)
         short, long = (len(pack.session_bytes([move])) for move in (
             Move(2, 5, where=1), Move(2, 1, 1, what=(Item(1, w.RAW_FORM),) * w.LIMITS["items of a move"])))
         room = w.LIMITS["bytes of session.bin"]

@@ -5,7 +5,7 @@ from pathlib import Path
 
 import broken
 from common import PROGRAM, ROOT, InFolder, plan
-from planner import office
+from planner import office, programs
 
 # Sessions with how many whole records they have, and whether they are cut behind them.
 SESSIONS = [
@@ -37,7 +37,7 @@ class Whole(unittest.TestCase):
                               (b"\x00", b"line 6\n"), (b"\x00", b"long\n")):
             office.parse(text, session)
             for length in range(len(text)):
-                with self.assertRaises(office.OfficeError, msg=text[:length]):
+                with self.assertRaises(programs.ProgramError, msg=text[:length]):
                     office.parse(text[:length], session)
 
     def test_accepted_is_every_record(self):

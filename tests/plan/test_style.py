@@ -5,7 +5,8 @@ import unittest
 from common import ROOT
 
 COLUMNS, FUNCTION_LINES, MODULE_LINES = 120, 40, 400
-FILES = [ROOT / "tools" / "plan", ROOT / "tools" / "office", *sorted((ROOT / "tools" / "planner").glob("*.py")),
+FILES = [*(ROOT / "tools" / name for name in ("plan", "office", "rewrite")),
+         *sorted((ROOT / "tools" / "planner").glob("*.py")),
          *sorted((ROOT / "tests" / "plan").glob("*.py")), *sorted((ROOT / "tests" / "browser").glob("*.py"))]
 
 

@@ -60,6 +60,13 @@ class Stopped(InFolder):
         words = [sys.executable, str(ROOT / "tools" / "office"), str(self.office()), "examples/visit"]
         self.assertEqual(self.stopped(words), (2, "judge: stopped: nothing is judged\n"))
 
+    def test_rewrite_too(self):
+        shutil.copytree(ROOT / "tools", "house/tools")
+        Path("house/judge").write_text(f"#!/bin/sh\necho {self.office()}\n", encoding="utf-8")
+        Path("house/judge").chmod(0o755)
+        words = [sys.executable, "house/tools/rewrite", "examples/visit"]
+        self.assertEqual(self.stopped(words), (2, "rewrite: stopped: line.out is not to be used\n"))
+
     def test_while_it_is_loaded(self):
         shutil.copytree(ROOT / "tools", "tools")
         Path("tools/planner/cli.py").write_text("raise KeyboardInterrupt\n", encoding="utf-8")

@@ -3,7 +3,7 @@ import argparse
 import shlex
 import time
 
-from . import disk, files, office, repairs, starting, unpack, workbook
+from . import disk, files, office, programs, repairs, starting, unpack, workbook
 from . import wording as w
 from .arguments import ALL, Parser, add_argument
 from .book_plan import book_tables, put_table, store_book
@@ -65,7 +65,7 @@ def attempt(run, options):
         return run(options)
     except (TableError, TableErrors) as fault:
         return fail(TABLES, fault)
-    except office.OfficeError as fault:
+    except programs.ProgramError as fault:
         return fail(PROGRAM, fault)
     except BrokenChain as fault:
         return fail(UNEXPLAINED, fault)

@@ -4,24 +4,22 @@ The text is taken by `./judge` and by the tool alike: a program that crashed, wa
 """
 import os
 import re
-import subprocess
 import tempfile
 from dataclasses import dataclass
 from pathlib import Path
 
+from . import programs
 from . import wording as w
-from .disk import plain, told
+from .disk import told
 from .unpack import Reader, Unreadable
 
 LINE, SESSION = "line.bin", "session.bin"
 VARIABLE = "KOLLUWAR_OFFICE"
-SECONDS = 60
+LOST = "nothing is judged"
 ANSWER = re.compile(rb"^\d+ (\d{1,2})$", re.MULTILINE)
+# What is printed alone: a file is too long, the line is refused by a question.
+LONG = b"long\n"
 REFUSED_LINE = re.compile(rb"line ([1-6])\n")
-
-
-class OfficeError(Exception):
-    """The program is not to be had or failed, or its text is not whole: nothing was judged."""
 
 
 @dataclass(frozen=True)
@@ -40,28 +38,8 @@ class Verdict:
 
 def find_office(option=None):
     """The program by the option, else by the environment, else as the repository's `./judge --program` says."""
-    given = option or os.environ.get(VARIABLE) or built(Path(__file__).resolve().parents[2])
-    path = Path(given).resolve()
-    if not (path.is_file() and os.access(path, os.X_OK)):
-        raise OfficeError(f"{given} is not a program that can be run")
-    return path
-
-
-def built(root):
-    """The program that the repository's `./judge --program` names, which may be a path from the root.
-
-    What judge says meanwhile is passed on, and it is given all the time it takes: the first build proves everything.
-    """
-    judge = root / "judge"
-    if not judge.exists():
-        raise OfficeError(f"no office program: give --office PATH or set {VARIABLE}")
-    try:
-        done = subprocess.run([str(judge), "--program"], cwd=root, stdout=subprocess.PIPE, text=True)
-    except OSError as fault:
-        raise OfficeError(plain(fault, "run", judge)) from None
-    if done.returncode != 0 or not done.stdout.strip():
-        raise OfficeError("'./judge --program' did not give the office program")
-    return root / done.stdout.strip().splitlines()[-1]
+    given = option or os.environ.get(VARIABLE)
+    return programs.runnable(given or programs.built("office", f": give --office PATH or set {VARIABLE}"))
 
 
 def judge(office, line, session):
@@ -73,19 +51,8 @@ def judge(office, line, session):
 
 
 def run(office, folder):
-    """What the program prints in a folder. Any end but status 0 is a failure, whatever was printed before."""
-    try:
-        done = subprocess.run([str(office)], cwd=folder, capture_output=True, timeout=SECONDS)
-    except OSError as fault:
-        raise OfficeError(plain(fault, "run", office)) from None
-    except subprocess.TimeoutExpired:
-        raise OfficeError(f"{office} did not end within {SECONDS} seconds: nothing is judged") from None
-    if done.returncode < 0:
-        raise OfficeError(f"{office} was ended by signal {-done.returncode}: nothing is judged")
-    if done.returncode > 0:
-        said = done.stderr.decode(errors="replace").strip()
-        raise OfficeError(f"{office} ended with status {done.returncode}: nothing is judged {said}".rstrip())
-    return done.stdout
+    """What the program prints in a folder."""
+    return programs.run(office, folder, LOST).stdout
 
 
 def parse(text, session):
@@ -94,7 +61,7 @@ def parse(text, session):
     Whole is `long` alone, `line n` alone, or a row for each record of the session, its place from 1 and its answer,
     and then `cut` if the session is; and every row has its newline.
     """
-    if text == b"long\n":
+    if text == LONG:
         return Verdict(too_long=True)
     refused = REFUSED_LINE.fullmatch(text)
     if refused:
@@ -103,8 +70,9 @@ def parse(text, session):
     answers = tuple(int(answer) for answer in ANSWER.findall(text))
     rows = [f"{place} {answer}\n" for place, answer in enumerate(answers, 1)] + ["cut\n"] * cut
     if text != "".join(rows).encode() or len(answers) != count or max(answers, default=0) > max(w.QUESTIONS):
-        raise OfficeError(f"the office program's text is not whole: {len(text)} bytes for a session of {count} "
-                          f"record{'' if count == 1 else 's'}{' and a cut one' if cut else ''}; nothing is judged")
+        raise programs.ProgramError(
+            f"the office program's text is not whole: {len(text)} bytes for a session of {count} "
+            f"record{'' if count == 1 else 's'}{' and a cut one' if cut else ''}; {LOST}")
     return Verdict(answers=answers, cut=cut)
 
 

@@ -1,9 +1,10 @@
 """What the tool says: on every terminal, with nothing raw in it, and with a word where it cannot be written."""
+import errno
 import os
 import sys
 import unicodedata
 
-from .disk import FileError, plain
+from .disk import FileError, plain, told
 
 OUTPUT = "the output"
 
@@ -33,6 +34,15 @@ def say(lines):
     except OSError as fault:
         discard(sys.stdout)
         raise FileError(plain(fault, "write", OUTPUT)) from None
+
+
+def pass_on(text, name=OUTPUT):
+    """All bytes of a program's text, past Python's buffer, so that every failure shows here; FileError tells it."""
+    with told("write", name):
+        if sys.stdout is None:
+            raise OSError(errno.EBADF, "it is closed")
+        while text:
+            text = text[os.write(sys.stdout.fileno(), text):]
 
 
 def complain(text, tool="plan"):
