@@ -37,9 +37,14 @@ def text_of(manual):
     return (ROOT / manual).read_text(encoding="utf-8")
 
 
+def blocks(manual, kind):
+    """The blocks of a kind."""
+    return re.findall(rf"^```{kind}\n(.*?)^```$", text_of(manual), re.DOTALL | re.MULTILINE)
+
+
 def fenced(manual, kind):
     """The one block of a kind."""
-    found = re.findall(rf"^```{kind}\n(.*?)^```$", text_of(manual), re.DOTALL | re.MULTILINE)
+    found = blocks(manual, kind)
     if len(found) != 1:
         raise Fault(f"{manual}: has {len(found)} blocks of {kind}, and not one")
     return found[0]
@@ -170,15 +175,24 @@ def check_library():
         raise Fault(f"docs/CONTROLLER.md does not tell what is linked: {', '.join(sorted(linked))}")
 
 
-def check_snippets(copy):
-    """The C lines of docs/CONTROLLER.md compile; its Rust program runs, with the dependency that it gives."""
-    head, lines = "static uint32_t one_call(const uint8_t *line, size_t line_len)", fenced("docs/CONTROLLER.md", "c")
-    (copy / "snippet.c").write_text(f'#include "sorter_gate.h"\n{head} {{\n{lines}return n;\n}}\n'
-                                    "int main(void) { return (int)one_call(0, 0); }\n", encoding="utf-8")
+def check_c(copy):
+    """The C lines of docs/CONTROLLER.md compile, each block in a function that has the areas by their names; what is
+    done with a written file is the host's. A block ends with the answer in `n`."""
+    made = ['#include "sorter_gate.h"', "void put_down(const uint8_t *file, size_t length);"]
+    for place, lines in enumerate(blocks("docs/CONTROLLER.md", "c")):
+        head = f"call_{place}(const uint8_t *line, size_t line_len, uint8_t *out, size_t out_len)"
+        made += [f"uint64_t {head};", f"uint64_t {head} {{", "(void)out, (void)out_len;", f"{lines}return n;", "}"]
+    if "gate_operate" not in "".join(made) or "gate_rewrite" not in "".join(made):
+        raise Fault("docs/CONTROLLER.md: its C lines do not show a call that judges and one that saves")
+    (copy / "snippet.c").write_text("\n".join(made) + "\n", encoding="utf-8")
     words = "gcc -std=c11 -O2 -Wall -Wextra -Werror -Iinclude -c -o snippet.o snippet.c"
     text, status = run(words.split(), copy)
     if status:
         raise Fault(f"docs/CONTROLLER.md: its C lines do not compile:\n{text}")
+
+
+def check_rust(copy):
+    """The Rust program of docs/CONTROLLER.md runs, with the dependency that it gives."""
     host = copy.parent / "host"
     (host / "src").mkdir(parents=True)
     (host / "src" / "main.rs").write_text(fenced("docs/CONTROLLER.md", "rust"), encoding="utf-8")
@@ -271,7 +285,8 @@ def main():
         make_accepted(copy)
         check_readme(outputs["README.md"]["./judge"], copy)
         check_library()
-        check_snippets(copy)
+        check_c(copy)
+        check_rust(copy)
         check_stored_file(copy)
         check_way_out(copy)
         check_performance(outputs["docs/CONTROLLER.md"][STACK])
