@@ -1,8 +1,8 @@
 #!/usr/bin/env bash
 # Layout and warnings of all that is not Rattle: C by clang-format and gcc, the examples for C++ hosts by g++ too, Rust
-# by rustfmt and clippy, Python by its compiler, shell scripts by bash; and the sizes of all files, of Rattle too. A
-# fault ends the script, and so does a tool that is not installed, which is named; with --lenient such a tool is named
-# and left out. Needs no network and no built library.
+# by rustfmt and clippy, Python by its compiler, shell scripts by bash; the sizes of all files, of Rattle too; and where
+# Rattle names its limits. A fault ends the script, and so does a tool that is not installed, which is named; with
+# --lenient such a tool is named and left out. Needs no network and no built library.
 set -euo pipefail
 cd "$(dirname "$0")/.."
 out=$(mktemp -d)
@@ -136,8 +136,24 @@ sys.exit(faults > 0 or not sys.argv[1:])
     echo "lint: the sizes of ${#written[@]} files"
 }
 
+# The largest number of objects and the small room stand once in the model and once in its code. Whatever else named one
+# of them, the number after it or a length that follows from it would stay behind when they change. (Examples are free.)
+lint_limits() {
+    local stated found numbers='96|97|192|193|1[_,]?728|3[_,]?360|0x(60|61|[cC]0|[cC]1)'
+    stated="crates/model/specs/Config.antt:mostObjects = 192
+crates/model/specs/Config.antt:smallRoom = 96
+crates/model/src/lib.rt:pub const MOST_OBJECTS: u8 = 192;
+crates/model/src/lib.rt:pub const SMALL_ROOM: u8 = 96;"
+    found=$(grep -rE "(^|[^0-9A-Za-z_])($numbers)(_?[ui](8|16|32|64|size))?([^0-9A-Za-z_]|\$)" crates/*/src \
+        crates/*/specs crates/*/proofs | grep -v '^crates/model/specs/Examples\.antt:' | sort) || true
+    diff <(echo "$stated") <(echo "$found") ||
+        { echo "lint: a limit is named elsewhere than where it is defined, or is not defined" >&2; exit 1; }
+    echo "lint: each limit of request N2 is named once in the model and once in its code"
+}
+
 lint_c
 lint_cpp
 lint_rust
 lint_scripts
 lint_sizes
+lint_limits

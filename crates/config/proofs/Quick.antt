@@ -22,6 +22,7 @@ use Rattle.model.specs.Config.{
 use Rattle.model.specs.ConfigFile.{
   fieldAt,
   onField,
+  countsTo,
   countsAt,
   ownerLeast,
   ownerMost,
@@ -175,7 +176,7 @@ module _ (counts : Counts) (c w : ℕ) where
 pub counts-quick : (s : List ℕ) (e d v n k : ℕ) → 5 ≤ length s → e ≡ getD s 0 0 → d ≡ getD s 1 0 → v ≡ getD s 2 0
     → n ≡ getD s 3 0 → k ≡ getD s 4 0 → countsFit e d v n k ≡ true
     → Counted (record { drivers = d; devices = v; objects = n; values = k }) 5 ≡ countsAt s
-unfolding countsFit countsAt onField
+unfolding countsFit countsTo onField
 counts-quick s e d v n k h p q r t u z =
     let first : Bool = eqb e 1 && leb d mostDrivers && leb v mostDevices && leb n (oneByteMost mostObjects) in
     let a =

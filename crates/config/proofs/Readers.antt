@@ -23,6 +23,7 @@ use Rattle.model.specs.ConfigFile.{
   stop,
   onReading,
   turns,
+  countsTo,
   countsAt,
   objectsAt,
   devicesAt,
@@ -36,6 +37,7 @@ use Rattle.model.specs.ConfigFile.{
   afterCounts,
   afterGroup,
   groupsFrom,
+  loadTo,
   load,
 }
 use Rattle.model.specs.declared.Num.{Num}
@@ -123,7 +125,7 @@ field-within s at low high k h = go (fieldAt s at low high) refl
     go (No q) e = tt
 
 head-within : (s : List ℕ) → WithinHead (countsAt s)
-unfolding countsAt
+unfolding countsTo
 head-within s =
     field-within s 0 1 1 _ λ edition a _.
     field-within s a 0 mostDrivers _ λ d b hd.
@@ -176,11 +178,11 @@ module _ {T : Type 0} (x : Progress T) (k : T → ℕ → Loaded) {r : Reading} 
 -- the counts: they are refused, or go to what follows
 module _ (s : List ℕ) {h : Head} (e : h ≡ countsAt s) where
   pub load-stop : {q : ℕ} {l : Loaded} → h ≡ Stopped q → l ≡ refused (headQuestion h) → l ≡ load s
-  unfolding load afterCounts
+  unfolding loadTo afterCounts
   load-stop z p = rw (p, ← e, z)
 
   pub load-go : {n : Counts} {next : ℕ} {l : Loaded} → h ≡ Counted n next → l ≡ groupsFrom s n next → l ≡ load s
-  unfolding load afterCounts
+  unfolding loadTo afterCounts
   load-go z p = rw (p, ← e, z)
 
 -- the counts and the three groups, up to the first that is refused: all that was read goes to what follows. Said once

@@ -1,6 +1,7 @@
 -- Objects put into a partition and taken out of it.
 use Prim.Native.Nat.{ℕ, zero, suc, _+_, _≤_, _<_}
 use mathlib.Core.Path.{_≡_, refl, sym, ap, _∙_}
+use mathlib.Core.Logic.{_⊎_, inl, inr}
 use mathlib.Core.List.{List, [], _∷_}
 use mathlib.Core.Bool.{Bool, true, false, not, _&&_, cond}
 use native.Mathlib.Numerals.{add-one}
@@ -9,7 +10,7 @@ use native.Mathlib.Omega.{arith}
 use lib.ListN.{length, getD, set}
 use lib.Seq.{set-getD}
 use lib.Dec.{eqb, leb}
-use borrow.Author.Tests.{eq-eqb, ne-eqb, not-true, not-false}
+use borrow.Author.Tests.{eq-eqb, ne-eqb, lt-leb, not-true, not-false}
 use Rattle.model.specs.Base.{put, number, below}
 use Rattle.model.specs.Config.{owns}
 use Rattle.model.specs.State.{State, cleared, areaLength, view, layout}
@@ -24,6 +25,8 @@ use Rattle.model.proofs.StateLaws.{Shape, view-layout}
 use Rattle.model.proofs.StateBytes.{layout-view}
 use Rattle.state.specs.Change.{withStatus, withDriver, withDevice, withObject, withContent, objectsLent}
 use Rattle.effect.specs.Moves.{movedAt, clearable, ownedBy, listed, moved}
+use Rattle.state.specs.Bytes.{Lesser}
+use Rattle.state.proofs.Idle.{idle-rest, lesser-end}
 use Rattle.state.proofs.Places.{view-shape}
 use Rattle.state.proofs.Turns.{
   after-driver,
@@ -144,6 +147,12 @@ module _ (hit : ℕ → Bool) (clears : Bool) (kind : List ℕ) (p room : ℕ) (
       after-turn room s (i + 1) p t h w g
       ∙ rw (inv, e, f, add-one i) (move-state i (view room s₀) (view-shape room s₀) l)
 
+  pub move-within : (last i : ℕ) (s t : List ℕ) (h w : Bool)
+      → view room s ≡ movedTo hit clears kind p i (view room s₀) → i < last → {objects : ℕ} → Lesser objects room last
+      → h ≡ hit (i + 1) → w ≡ clearable clears kind (i + 1) → t ≡ layout (movedAt h w (i + 1) p (view room s))
+      → view room t ≡ movedTo hit clears kind p (i + 1) (view room s₀)
+  move-within last i s t h w inv l m e f g = move-on i s t h w inv (omega (arith, m .second)) e f g
+
   pub move-end : (i : ℕ) (s : List ℕ) → length s ≡ length s₀ → length s₀ ≡ areaLength room
       → view room s ≡ movedTo hit clears kind p i (view room s₀) → i ≤ room → room ≤ i
       → s ≡ layout (moved hit clears kind p (view room s₀))
@@ -152,6 +161,50 @@ module _ (hit : ℕ → Bool) (clears : Bool) (kind : List ℕ) (p room : ℕ) (
       sym (layout-view room s (l ∙ m))
       ∙ ap layout (inv ∙ changed-to-all (λ n q. cond (hit n) p q)
       (λ n c. cond (hit n && clearable clears kind n) cleared c) room i (view room s₀) (view-shape room s₀) h k)
+
+-- the objects after the first i are not hit
+module _ (hit : ℕ → Bool) (clears : Bool) (kind : List ℕ) (p room : ℕ) (s₀ : List ℕ) where
+  pub move-few : (i : ℕ) (s : List ℕ) → length s ≡ length s₀ → length s₀ ≡ areaLength room
+      → view room s ≡ movedTo hit clears kind p i (view room s₀) → ((n : ℕ) → i < n → hit n ≡ false)
+      → s ≡ layout (moved hit clears kind p (view room s₀))
+  unfolding movedTo moved changedTo
+  move-few i s l m inv h =
+      sym (layout-view room s (l ∙ m))
+      ∙ ap layout (inv ∙ λ j. record {
+        status = (view room s₀) .status;
+        driver = (view room s₀) .driver;
+        device = (view room s₀) .device;
+        object = idle-rest (λ n q. cond (hit n) p q) 0 0 i ((view room s₀) .object)
+            (λ n k q. rw (h n (omega arith))) j;
+        content = idle-rest (λ n c. cond (hit n && clearable clears kind n) cleared c) cleared 0 i
+            ((view room s₀) .content) (λ n k q. rw (h n (omega arith))) j;
+      })
+
+-- nobody owns a record of an absent object
+owned-past : (objects : ℕ) (class owner : List ℕ) (a k n : ℕ) → objects < n → ownedBy objects class owner a k n ≡ false
+owned-past objects class owner a k n h =
+    sym (owned-by objects class owner a k n refl refl)
+    ∙ rw (lt-leb n objects h) (go (leb 1 n) (eqb (getD class n 0) a) (eqb (getD owner n 0) k))
+  where
+    go : (x y z : Bool) → (x && false && y && z) ≡ false
+    go true y z = refl
+    go false y z = refl
+
+-- a loop up to the last object, or to the last record
+pub move-owned-end : (objects : ℕ) (class owner : List ℕ) (a k : ℕ) (clears : Bool) (kind : List ℕ) (p room : ℕ)
+    (s₀ : List ℕ) (last i : ℕ) (s : List ℕ) → Lesser objects room last → i ≤ last → last ≤ i
+    → length s ≡ length s₀ → length s₀ ≡ areaLength room
+    → view room s ≡ movedTo (ownedBy objects class owner a k) clears kind p i (view room s₀)
+    → s ≡ layout (moved (ownedBy objects class owner a k) clears kind p (view room s₀))
+move-owned-end objects class owner a k clears kind p room s₀ last i s e low high l m inv =
+    go (lesser-end objects room last i e high)
+  where
+    go : (objects ≤ i) ⊎ (room ≤ i) → s ≡ layout (moved (ownedBy objects class owner a k) clears kind p (view room s₀))
+    go (inl q) =
+        move-few (ownedBy objects class owner a k) clears kind p room s₀ i s l m inv
+        (λ n r. owned-past objects class owner a k n (omega arith))
+    go (inr q) =
+        move-end (ownedBy objects class owner a k) clears kind p room s₀ i s l m inv (omega (arith, e .second)) q
 
 -- a column by its numbers, with one more of them changed
 module _ {A : Type 0} (f g : ℕ → A → A) where

@@ -19,6 +19,7 @@ use model::byte_at;
 use operation::columns::number_of;
 use state::DESTROYED;
 use state::EXISTING;
+use state::bytes::lesser;
 use state::change::clear;
 use state::change::set_device;
 use state::change::set_driver;
@@ -49,7 +50,7 @@ fn is_clearable(clears: bool, kind: &[u8], n: usize) -> bool
     byte_at(kind, n) != HARDCODED_KIND
 }
 
-// All objects of driver or device k go to partition p.
+// All objects of driver or device k go to partition p. Records of absent objects are nobody's.
 fn move_owned<'a>(
     area: &mut [u8],
     room: usize,
@@ -68,8 +69,9 @@ fn move_owned<'a>(
         (moved (ownedBy objects (now (class .entry)) (now (owner .entry)) a k) clears (now (kind .entry)) p
         (view room (now (area .entry)))) ⌝ }
 {
+    let last = lesser(objects, room);
     let mut i = 0;
-    while i < room {
+    while i < last {
         i += 1;
         let hit = is_owned(objects, class, owner, a, k, i);
         let c = is_clearable(clears, kind, i);

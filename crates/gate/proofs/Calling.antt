@@ -29,10 +29,10 @@ use Rattle.gate.specs.Carried.{carried}
 use Rattle.searches.proofs.Asking
 
 -- the answer and both areas are those of the definition
-abbrev pub Carried : Config → List ℕ → List ℕ → List ℕ → ℕ → List ℕ → List ℕ → Type 0
-Carried config area bytes answer r s a =
-    (r ≡ (carried config area bytes answer) .0)
-    × ((s ≡ (carried config area bytes answer) .1) × (a ≡ (carried config area bytes answer) .2))
+abbrev pub Carried : ℕ → Config → List ℕ → List ℕ → List ℕ → ℕ → List ℕ → List ℕ → Type 0
+Carried room config area bytes answer r s a =
+    (r ≡ (carried room config area bytes answer) .0)
+    × ((s ≡ (carried room config area bytes answer) .1) × (a ≡ (carried room config area bytes answer) .2))
 
 module _ (file area bytes answer : List ℕ) {l : Loaded} (e : l ≡ load file) where
   pub file-refused : (l .answer ≡ 0 → ⊥) → Operated file area bytes answer (l .answer) area answer
@@ -40,67 +40,69 @@ module _ (file area bytes answer : List ℕ) {l : Loaded} (e : l ≡ load file) 
   file-refused n = rw (← e) (go (l .answer) n)
     where
       go : (q : ℕ) → (q ≡ 0 → ⊥)
-          → let o = outcome (orElse q (verdict (l .config) (readOperation bytes) area answer)) (l .config)
+          → let room = records (l .config) in
+          let o = outcome room (orElse q (verdict room (l .config) (readOperation bytes) area answer)) (l .config)
           ((readOperation bytes) .1) area answer in
           (q ≡ o .0) × (area ≡ o .1) × (answer ≡ o .2)
       go zero n = absurd (n refl)
       go (suc q) n = (refl, refl, refl)
 
-  pub file-accepted : l .answer ≡ 0 → {r : ℕ} {s a : List ℕ} → Carried (l .config) area bytes answer r s a
-      → Operated file area bytes answer r s a
+  pub file-accepted : l .answer ≡ 0 → {room : ℕ} → room ≡ records (l .config) → {r : ℕ} {s a : List ℕ}
+      → Carried room (l .config) area bytes answer r s a → Operated file area bytes answer r s a
   unfolding operate carried
-  file-accepted z h = rw (← e, z) (h .0, h .1 .0, h .1 .1)
+  file-accepted z k h = rw (← e, z, ← k) (h .0, h .1 .0, h .1 .1)
 
 -- questions 7 to 20
-module _ (config : Config) (room : ℕ) (area bytes answer : List ℕ) (k : room ≡ records config) where
-  refused : {n : ℕ} → (n ≡ 0 → ⊥) → verdict config (readOperation bytes) area answer ≡ n
-      → Carried config area bytes answer n area answer
+module _ (config : Config) (room : ℕ) (area bytes answer : List ℕ) where
+  refused : {n : ℕ} → (n ≡ 0 → ⊥) → verdict room config (readOperation bytes) area answer ≡ n
+      → Carried room config area bytes answer n area answer
   unfolding carried
   refused {n} h e = rw e (go n h)
     where
-      go : (q : ℕ) → (q ≡ 0 → ⊥) → let o = outcome q config ((readOperation bytes) .1) area answer in
+      go : (q : ℕ) → (q ≡ 0 → ⊥) → let o = outcome room q config ((readOperation bytes) .1) area answer in
           (q ≡ o .0) × ((area ≡ o .1) × (answer ≡ o .2))
       go zero n = absurd (n refl)
       go (suc q) n = (refl, (refl, refl))
 
   module _ {t₇ : Bool} (e₇ : t₇ ≡ eqb (length area) (areaLength room)) where
-    pub no-7 : t₇ ≡ false → Carried config area bytes answer 7 area answer
-    no-7 h = refused {n = 7} (λ z. absurd (omega (arith, z))) (rw (← k, ← e₇, h))
+    pub no-7 : t₇ ≡ false → Carried room config area bytes answer 7 area answer
+    no-7 h = refused {n = 7} (λ z. absurd (omega (arith, z))) (rw (← e₇, h))
 
     module _ (y₇ : t₇ ≡ true) where
-      pub no-8 : length answer < answerBytes → Carried config area bytes answer 8 area answer
+      pub no-8 : length answer < answerBytes → Carried room config area bytes answer 8 area answer
       no-8 h = refused {n = 8} (λ z. absurd (omega (arith, z)))
-          (rw (← k, ← e₇, y₇, lt-leb answerBytes (length answer) h))
+          (rw (← e₇, y₇, lt-leb answerBytes (length answer) h))
 
       module _ (y₈ : answerBytes ≤ length answer) {t₉ : Bool} (e₉ : t₉ ≡ wellFormed room config (view room area)) where
-        pub no-9 : t₉ ≡ false → Carried config area bytes answer 9 area answer
+        pub no-9 : t₉ ≡ false → Carried room config area bytes answer 9 area answer
         no-9 h = refused {n = 9} (λ z. absurd (omega (arith, z)))
-            (rw (← k, ← e₇, y₇, le-leb answerBytes (length answer) y₈, ← e₉, h))
+            (rw (← e₇, y₇, le-leb answerBytes (length answer) y₈, ← e₉, h))
 
         module _ (y₉ : t₉ ≡ true) {q₁₀ : ℕ} {op : Operation} (e₁₀ : q₁₀ ≡ (readOperation bytes) .0)
             (o₁₀ : op ≡ (readOperation bytes) .1) where
-          judgement : verdict config (readOperation bytes) area answer ≡ orElse q₁₀ (judged config op (view room area))
-          judgement = rw (← k, ← e₇, y₇, le-leb answerBytes (length answer) y₈, ← e₉, y₉, ← e₁₀, ← o₁₀)
+          judgement : verdict room config (readOperation bytes) area answer
+              ≡ orElse q₁₀ (judged config op (view room area))
+          judgement = rw (← e₇, y₇, le-leb answerBytes (length answer) y₈, ← e₉, y₉, ← e₁₀, ← o₁₀)
 
           or-stop : (q rest : ℕ) → (q ≡ 0 → ⊥) → orElse q rest ≡ q
           or-stop zero rest h = absurd (h refl)
           or-stop (suc q) rest h = refl
 
-          pub no-10 : (q₁₀ ≡ 0 → ⊥) → Carried config area bytes answer q₁₀ area answer
+          pub no-10 : (q₁₀ ≡ 0 → ⊥) → Carried room config area bytes answer q₁₀ area answer
           no-10 h = refused h (judgement ∙ or-stop q₁₀ (judged config op (view room area)) h)
 
           module _ (y₁₀ : q₁₀ ≡ 0) {q : ℕ} (e : q ≡ judged config op (view room area)) where
-            last : verdict config (readOperation bytes) area answer ≡ q
+            last : verdict room config (readOperation bytes) area answer ≡ q
             last = judgement ∙ (ap (λ (n : ℕ). orElse n (judged config op (view room area))) y₁₀ ∙ sym e)
 
-            pub no-11 : (q ≡ 0 → ⊥) → Carried config area bytes answer q area answer
+            pub no-11 : (q ≡ 0 → ⊥) → Carried room config area bytes answer q area answer
             no-11 h = refused h last
 
             pub done : q ≡ 0 → {s a : List ℕ} → s ≡ layout (applied config op (view room area))
                 → a ≡ answered op (familyOf (op .code)) (view room area) answer
-                → Carried config area bytes answer 0 s a
+                → Carried room config area bytes answer 0 s a
             unfolding carried
-            done h x y = rw (last ∙ h, ← o₁₀, ← k) (refl, (x, y))
+            done h x y = rw (last ∙ h, ← o₁₀) (refl, (x, y))
 
 neither : (x y : Bool) → (x || y) ≡ false → (x ≡ false) × (y ≡ false)
 neither true y h = absurd (true≢false h)

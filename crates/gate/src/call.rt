@@ -1,8 +1,10 @@
 // One operation call whose configuration was accepted: questions 7 to 20, and then the effect. `room` is how many
 // object records the state area has.
 ghost use mathlib.Core.Path.{_≡_};
+ghost use Prim.Native.Nat.{_≤_};
 ghost use mathlib.Core.Bool.{_||_};
-ghost use Rattle.model.specs.State.{records, view};
+ghost use Rattle.model.specs.Config.{mostObjects};
+ghost use Rattle.model.specs.State.{view};
 ghost use Rattle.model.specs.Gate.{judged};
 ghost use Rattle.searches.specs.Ready.{Accepted, Ready, Complete};
 ghost use Rattle.searches.specs.Asking.{stores, leaves};
@@ -74,13 +76,15 @@ pub fn operate_on(
     answer: &mut [u8],
 ) -> u32
     requires { ⌜ Accepted config ⌝ }
-    requires { ⌜ room ≡ records config ⌝ }
+    requires { ⌜ config .counts .objects ≤ room ⌝ }
+    requires { ⌜ room ≤ mostObjects ⌝ }
     ensures { λ r.
-        ⌜ r ≡ (carried config (now (state .entry)) (now (rec .entry)) (now (answer .entry))) .0 ⌝ }
+        ⌜ r ≡ (carried room config (now (state .entry)) (now (rec .entry)) (now (answer .entry))) .0 ⌝ }
     ensures { λ _.
-        ⌜ now (state .exit) ≡ (carried config (now (state .entry)) (now (rec .entry)) (now (answer .entry))) .1 ⌝ }
+        ⌜ now (state .exit) ≡ (carried room config (now (state .entry)) (now (rec .entry)) (now (answer .entry))) .1 ⌝ }
     ensures { λ _.
-        ⌜ now (answer .exit) ≡ (carried config (now (state .entry)) (now (rec .entry)) (now (answer .entry))) .2 ⌝ }
+        ⌜ now (answer .exit)
+        ≡ (carried room config (now (state .entry)) (now (rec .entry)) (now (answer .entry))) .2 ⌝ }
 {
     if !right_length(&state[..], room) {
         return 7;

@@ -4,9 +4,12 @@ mod call;
 ghost use mathlib.Core.Path.{_≡_};
 ghost use Rattle.model.specs.ConfigFile.{load};
 ghost use lib.ListN.{length};
+ghost use Rattle.model.specs.Gate.{stateBytes};
 ghost use Rattle.model.specs.Programs.{Made, Operated};
 ghost use Rattle.model.specs.Rewriting.{coded, rewriteAnswer, rewriteArea};
-use model::MOST_OBJECTS;
+use model::Written;
+use state::room::area_length;
+use state::room::room_for;
 
 // Questions 1 to 6 of a configuration file: 0, or the number of the first that is answered with no.
 #[no_mangle]
@@ -15,6 +18,20 @@ pub extern "C" fn gate_load_check(line: &[u8]) -> u32
 {
     let loaded = config::load(line);
     loaded.answer as u32
+}
+
+// How long the state area of a line is (request N2). The answer has a kind: done with the length, or refused with the
+// question, 1 to 6.
+#[no_mangle]
+pub extern "C" fn gate_state_bytes(line: &[u8]) -> u64
+    ensures { λ r. ⌜ r ≡ coded (stateBytes (now (line .entry))) ⌝ }
+{
+    let loaded = config::load(line);
+    if loaded.answer != 0 {
+        return writer::code_of(Written::Refused(loaded.answer));
+    }
+    let room = room_for(loaded.config.counts.objects);
+    writer::code_of(Written::Length(area_length(room)))
 }
 
 // A fresh state in the area lent: questions 1 to 6, then 7. A refusal leaves the area as it was.
@@ -27,7 +44,7 @@ pub extern "C" fn gate_fresh(line: &[u8], state: &mut [u8]) -> u32
         return loaded.answer as u32;
     }
     let config = loaded.config;
-    let room = MOST_OBJECTS as usize;
+    let room = room_for(config.counts.objects);
     if !state::look::right_length(&state[..], room) {
         return 7;
     }
@@ -47,7 +64,8 @@ pub extern "C" fn gate_operate(line: &[u8], state: &mut [u8], rec: &[u8], answer
     if loaded.answer != 0 {
         return loaded.answer as u32;
     }
-    call::operate_on(loaded.config, MOST_OBJECTS as usize, state, rec, answer)
+    let room = room_for(loaded.config.counts.objects);
+    call::operate_on(loaded.config, room, state, rec, answer)
 }
 
 // Loads a file and writes it into the area lent (request N1). The answer has a kind: done with the length written,

@@ -112,7 +112,7 @@ module _ (file area bytes answer : List ℕ) where
       }
 
   -- with 1 to 10 a yes, a call answers what 11 to 20 answer
-  answered : (n : ℕ) → (outcome n config op area answer) .0 ≡ n
+  answered : (n : ℕ) → (outcome (records config) n config op area answer) .0 ≡ n
   answered zero = refl
   answered (suc n) = refl
 
@@ -120,7 +120,7 @@ module _ (file area bytes answer : List ℕ) where
     call-judged : (operate file area bytes answer) .0 ≡ judge config state op (familyIn bytes) (actorIn bytes)
     unfolding operate
     call-judged =
-        answered (orElse ((load file) .answer) (verdict config (readOperation bytes) area answer))
+        answered (orElse ((load file) .answer) (verdict (records config) config (readOperation bytes) area answer))
         ∙ (or-zero ((load file) .answer) _ (file-yes file .1 (u .y1-6))
         ∙ (ask-true 7 (eqb (length area) (areaLength (records config))) _
         (eq-eqb (length area) (areaLength (records config)) (u .y7))

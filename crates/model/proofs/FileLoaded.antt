@@ -16,6 +16,7 @@ use Rattle.model.specs.ConfigFile.{
   onReading,
   countsRow,
   countsOf,
+  countsTo,
   countsAt,
   objectsAt,
   devicesAt,
@@ -29,6 +30,7 @@ use Rattle.model.specs.ConfigFile.{
   afterCounts,
   afterGroup,
   groupsFrom,
+  loadTo,
   load,
 }
 use Rattle.model.specs.ConfigWrite.{
@@ -132,7 +134,7 @@ Counting s counts next =
     (inRow countsRow (countsNumbers counts) ≡ true) × (s ≡ rowBytes countsRow (countsNumbers counts) ++ drop next s)
 
 pub counts-kept : (s : List ℕ) → Bytes s → HeadTold (Counting s) (countsAt s)
-unfolding countsAt
+unfolding countsTo
 counts-kept s bytes =
     row-written s bytes (HeadTold (Counting s)) Stopped (λ q low. low) countsRow
     (λ vs next. Counted (countsOf vs) next) 0
@@ -172,7 +174,7 @@ pub every-right : (n : ℕ) (p : ℕ → Bool) → ((k : ℕ) → 0 < k → k �
 every-right n p h = every-intro n p (λ i low high. h i low (omega arith))
 
 load-kept : (s : List ℕ) → Bytes s → Kept s (load s)
-unfolding load groupsFrom
+unfolding loadTo groupsFrom
 load-kept s bytes =
     counts-hold (Kept s) (refused-kept s) (Counting s) (countsAt s) _ (counts-kept s bytes) λ counts a hc.
     let few = few-counts counts (hc .0) in

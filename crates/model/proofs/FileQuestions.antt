@@ -34,6 +34,7 @@ use Rattle.model.specs.ConfigFile.{
   stop,
   onReading,
   turns,
+  countsTo,
   countsAt,
   ownerLeast,
   ownerMost,
@@ -55,6 +56,7 @@ use Rattle.model.specs.ConfigFile.{
   afterCounts,
   afterGroup,
   groupsFrom,
+  loadTo,
   load,
 }
 use Rattle.model.specs.FileQuestions.{
@@ -178,7 +180,7 @@ module _ (s : List ℕ) where
 
   -- the groups of a file
   counts-on : FitsHead (countsAt s) (pass (countsAsked s))
-  unfolding countsAt countsAsked
+  unfolding countsTo countsAsked
   counts-on =
       asks-on FitsHead Stopped (λ q l. (refl, l)) 0 1 1 _ _ λ edition a.
       asks-on FitsHead Stopped (λ q l. (refl, l)) a 0 mostDrivers _ _ λ d b.
@@ -268,7 +270,7 @@ module _ (s : List ℕ) where
       go (Refused q) = refl
 
   load-told : load s ≡ finish (told s)
-  unfolding load groupsFrom told read onReading
+  unfolding loadTo groupsFrom told read onReading
   load-told =
       after-counts (countsAt s) _ _ λ counts a.
       after-group (objectsAt s counts a) _ _ λ objects b.

@@ -28,7 +28,7 @@ use Rattle.model.specs.ConfigFile.{
   valueRow,
   entryRow,
   countsOf,
-  countsAt,
+  countsTo,
   storedMost,
   objectsAt,
   devicesAt,
@@ -41,6 +41,7 @@ use Rattle.model.specs.ConfigFile.{
   afterCounts,
   afterGroup,
   groupsFrom,
+  loadTo,
   load,
 }
 use Rattle.model.specs.ConfigWrite.{
@@ -175,7 +176,7 @@ judged-yes s at config e p q = rw (eq-eqb at (length s) e, p, q)
 -- the configuration that a file tells is accepted, whatever else stood in memory
 pub written-told : (config : Config) → inRanges config ≡ true → paired config ≡ true → restrained config ≡ true
     → load (fileOf config) ≡ accepted (told config)
-unfolding load groupsFrom fileOf afterCounts countsAt
+unfolding loadTo groupsFrom fileOf afterCounts countsTo
 written-told config h p q =
     let r = ranges-asked config h in
     let s = fileOf config in

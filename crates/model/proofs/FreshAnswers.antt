@@ -49,8 +49,8 @@ module _ (file area : List ℕ) where
   -- any refusal leaves the state area unchanged
   pub fresh-leaves : ((makeFresh file area) .0 ≡ 0 → ⊥) → (makeFresh file area) .1 ≡ area
   unfolding makeFresh
-  fresh-leaves h = go (freshAnswer (load file) area) h
+  fresh-leaves h = go (freshAnswer (records ((load file) .config)) (load file) area) h
     where
-      go : (n : ℕ) → (n ≡ 0 → ⊥) → freshAfter n ((load file) .config) area ≡ area
+      go : (n : ℕ) → (n ≡ 0 → ⊥) → freshAfter (records ((load file) .config)) n ((load file) .config) area ≡ area
       go zero k = absurd (k refl)
       go (suc n) k = refl

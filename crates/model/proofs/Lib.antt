@@ -18,6 +18,7 @@ pub mod Entries
 pub mod Turns
 pub mod Groups
 pub mod Accepted
+pub mod SmallLines
 pub mod Hardcoded
 pub mod ClosureLaws
 pub mod Confinement
@@ -50,3 +51,4 @@ pub mod FileNumbers
 pub mod FileQuestions
 pub mod Demand2Calls
 pub mod FreshAnswers
+pub mod AreaNeeded

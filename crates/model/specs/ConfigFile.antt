@@ -110,23 +110,29 @@ readRow s at (field low high rest) stop k =
     onField stop (fieldAt s at low high) λ v a. readRow s a (rest v) stop (λ vs next. k (v ∷ vs) next)
 readRow s at (absent rest) stop k = readRow s at rest stop (λ vs next. k (0 ∷ vs) next)
 
--- document 01, 'Line file': edition, 1; drivers D, devices V, objects N, values K
-abbrev pub countsRow : Row
-countsRow =
+-- document 01, 'Line file': edition, 1; drivers D, devices V, objects N up to `most`, values K
+abbrev pub countsRowTo : ℕ → Row
+countsRowTo most =
     field 1 1 λ edition.
     field 0 mostDrivers λ d.
     field 0 mostDevices λ v.
-    field 0 mostObjects λ n.
+    field 0 most λ n.
     field 0 mostValues λ k.
     done
+
+abbrev pub countsRow : Row
+countsRow = countsRowTo mostObjects
 
 abbrev pub countsOf : List ℕ → Counts
 countsOf vs = record { drivers = getD vs 1 0; devices = getD vs 2 0; objects = getD vs 3 0; values = getD vs 4 0 }
 
-unfoldable pub countsAt : List ℕ → Head
-countsAt s =
-    readRow s 0 countsRow Stopped λ vs next.
+unfoldable pub countsTo : ℕ → List ℕ → Head
+countsTo most s =
+    readRow s 0 (countsRowTo most) Stopped λ vs next.
     Counted (countsOf vs) next
+
+abbrev pub countsAt : List ℕ → Head
+countsAt s = countsTo mostObjects s
 
 -- document 01, 'Line file': an owner's number by its class: 0, 1 to D, or 1 to V
 unfoldable pub ownerLeast : ℕ → ℕ
@@ -268,6 +274,9 @@ groupsFrom s counts at =
     afterGroup (valuesAt s counts (objects .kind) b) λ values end.
     judged s end (record { counts = counts; objects = objects; devices = devices; values = values })
 
--- the configuration that a file tells, with answer 0; or the first question answered with no
-unfoldable pub load : List ℕ → Loaded
-load s = afterCounts (countsAt s) (groupsFrom s)
+-- the configuration that a file of at most `most` objects tells, with answer 0; or the first question answered with no
+unfoldable pub loadTo : ℕ → List ℕ → Loaded
+loadTo most s = afterCounts (countsTo most s) (groupsFrom s)
+
+abbrev pub load : List ℕ → Loaded
+load s = loadTo mostObjects s

@@ -6,12 +6,16 @@ use mathlib.Core.Bool.{Bool, true, false, _&&_, cond}
 use lib.ListN.{length, getD, drop}
 use lib.Dec.{leb, eqb}
 use Rattle.model.specs.Base.{all, any, every}
-use Rattle.model.specs.Number.{mostBytes, bytesOf}
+use Rattle.model.specs.Number.{bytesOf, bytesTo}
 use Rattle.model.specs.Config.{
+  mostDrivers,
   mostDevices,
   mostObjects,
   mostValues,
   mostEntries,
+  mostKind,
+  mostClass,
+  mostMode,
   entryBytes,
   entryPlace,
   kindOf,
@@ -107,13 +111,24 @@ unfoldable pub rowsBytes : List Filled → List ℕ
 rowsBytes [] = []
 rowsBytes (r ∷ rs) = rowBytes (r .row) (r .numbers) ++ rowsBytes rs
 
--- N1: how long a value is at most in a file: its entry count, and three numbers for each entry
-abbrev pub mostValueBytes : ℕ
-mostValueBytes = mostBytes * (1 + 3 * mostEntries)
+-- N1: how long a row is at most in a file: edition and counts; an object, whose owner is a driver or a device; an entry
+abbrev pub mostCountsBytes : ℕ
+mostCountsBytes = bytesTo 1 + bytesTo mostDrivers + bytesTo mostDevices + bytesTo mostObjects + bytesTo mostValues
 
--- N1: how long a file is at most: five numbers, three for each object, one for each device, and the values
+abbrev pub mostObjectBytes : ℕ
+mostObjectBytes = bytesTo mostKind + bytesTo mostClass + bytesTo (mostDrivers + mostDevices)
+
+abbrev pub mostEntryBytes : ℕ
+mostEntryBytes = bytesTo mostObjects + bytesTo mostMode + bytesTo mostValues
+
+-- N1: how long a value is at most in a file: its entry count, and its entries
+abbrev pub mostValueBytes : ℕ
+mostValueBytes = bytesTo mostEntries + mostEntryBytes * mostEntries
+
+-- N1: how long a file is at most: edition and counts, objects, a value number for each device, and values
 abbrev pub mostWritten : ℕ
-mostWritten = mostBytes * (5 + 3 * mostObjects + mostDevices) + mostValueBytes * mostValues
+mostWritten =
+    mostCountsBytes + mostObjectBytes * mostObjects + bytesTo mostValues * mostDevices + mostValueBytes * mostValues
 
 -- N1: the file of a configuration
 unfoldable pub fileOf : Config → List ℕ

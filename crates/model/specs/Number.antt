@@ -47,6 +47,10 @@ headAt at t = cond (ltb (lead t) (length t)) (formAt at t (lead t)) (Bad Cut)
 unfoldable pub numberAt : List ℕ → ℕ → Num
 numberAt s at = headAt at (drop at s)
 
+-- document 01, 'Line file': how many bytes a number up to `most` has at most
+abbrev pub bytesTo : ℕ → ℕ
+bytesTo most = cond (ltb most 128) 1 (cond (ltb most 16384) 2 mostBytes)
+
 -- document 01, 'Line file' and request N1: the shortest form of a number, in groups of seven bits, the lowest first;
 -- the last byte is below 128. A number is at most the largest, so that there are at most three
 unfoldable pub bytesOf : ℕ → List ℕ

@@ -10,7 +10,10 @@ pub const MOST_DRIVERS: u8 = 16;
 
 pub const MOST_DEVICES: u8 = 16;
 
-pub const MOST_OBJECTS: u8 = 96;
+pub const MOST_OBJECTS: u8 = 192;
+
+// A configuration with at most so many objects has an area with so many object records.
+pub const SMALL_ROOM: u8 = 96;
 
 pub const MOST_VALUES: u8 = 47;
 

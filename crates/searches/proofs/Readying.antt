@@ -4,13 +4,14 @@ use mathlib.Core.Path.{_≡_, refl, sym, ap, _∙_, subst}
 use mathlib.Core.List.{List}
 use mathlib.Core.Bool.{Bool, true, false≢true}
 use native.Mathlib.Omega.{arith}
-use lib.ListN.{length, replicate}
+use lib.ListN.{length, take, replicate}
+use lib.Seq.{length-take-le}
 use lib.Dec.{eqb}
 use borrow.Author.Tests.{eqb-true}
 use Rattle.model.specs.Config.{mostObjects, mostValues}
 use Rattle.model.specs.ConfigFile.{load}
 use Rattle.model.specs.Number.{mostNumber}
-use Rattle.model.specs.State.{State, records, roomFor, areaLength, view, layout, wellFormed}
+use Rattle.model.specs.State.{State, roomFor, areaLength, view, layout, wellFormed}
 use Rattle.model.specs.Operation.{familyOf, actorOf, mostItems, objectAt, readOperation}
 use Rattle.model.specs.Effect.{apply, answerBytes}
 use Rattle.model.specs.Questions.{q11, q13, isObject}
@@ -23,8 +24,8 @@ use Rattle.model.specs.declared.Loaded.{Loaded}
 use Rattle.model.specs.declared.Operation.{Operation}
 use Rattle.model.proofs.Lists.{from1to-high}
 use Rattle.model.proofs.Accepted.{Sound, load-sound}
-use Rattle.model.proofs.Facts.{objects-room, passed}
-use Rattle.model.proofs.Formed.{Formed, formed-of, formed-to, items-exist}
+use Rattle.model.proofs.Facts.{objects-room, room-most, passed}
+use Rattle.model.proofs.Formed.{Formed, formed-of, items-exist}
 use Rattle.model.proofs.FormedStores.{write-formed, copy-formed}
 use Rattle.model.proofs.OperationRange.{InRange, read-ranged}
 use Rattle.model.proofs.Reached.{layout-length}
@@ -49,23 +50,18 @@ sound-of : (config : Config) → Accepted config → Sound config
 sound-of config a = subst Sound (sym (a .same)) (load-sound (a .file) (a .yes))
 
 -- questions 7 and 9 make an area that can be searched
-searchable : (config : Config) → Sound config → (area : List ℕ) → length area ≡ areaLength (records config)
-    → Formed config (view (records config) area) → Searchable config (records config) area
-searchable config sound area long formed =
+searchable : (config : Config) (room : ℕ) → config .counts .objects ≤ room → Sound config → (area : List ℕ)
+    → length area ≡ areaLength room → Formed room config (view room area) → Searchable config room area
+searchable config room fits sound area long formed =
     record {
       values = values-ok config sound;
       owners = owners-ok config sound;
-      held = area-ok config sound (records config) area long (objects-room config sound)
-          (λ o i. formed .contents o (i .low) (omega (arith, i .high, objects-room config sound)));
+      held = area-ok config sound room area long fits
+          (λ o i. formed .contents o (i .low) (omega (arith, i .high, fits)));
     }
 
-at-room : (config : Config) (room : ℕ) → room ≡ records config → Sound config → (area : List ℕ)
-    → length area ≡ areaLength room → wellFormed room config (view room area) ≡ true → Searchable config room area
-at-room config room k sound area =
-    subst (λ (n : ℕ). length area ≡ areaLength n → wellFormed n config (view n area) ≡ true → Searchable config n area)
-    (sym k) (λ long h. searchable config sound area long (formed-of config (view (records config) area) h))
-
-pub ready-of : (config : Config) (room : ℕ) (area : List ℕ) → Accepted config → room ≡ records config
+pub ready-of : (config : Config) (room : ℕ) (area : List ℕ) → Accepted config
+    → (config .counts .objects ≤ room) × (room ≤ mostObjects)
     → {t₇ : Bool} → t₇ ≡ eqb (length area) (areaLength room) → t₇ ≡ true
     → {t₉ : Bool} → t₉ ≡ wellFormed room config (view room area) → t₉ ≡ true → Ready config room area
 ready-of config room area a k e₇ y₇ e₉ y₉ =
@@ -73,10 +69,12 @@ ready-of config room area a k e₇ y₇ e₉ y₉ =
     let h : wellFormed room config (view room area) ≡ true = sym e₉ ∙ y₉ in
     record {
       accepted = a;
-      records = k;
+      fits = k .0;
+      most = k .1;
       long = long;
       formed = h;
-      searchable = at-room config room k (sound-of config a) area long h;
+      searchable = searchable config room (k .0) (sound-of config a) area long
+          (formed-of room config (view room area) h);
     }
 
 pub complete-of : (bytes : List ℕ) {q : ℕ} {op : Operation} → q ≡ (readOperation bytes) .0
@@ -89,14 +87,13 @@ ranged op c = subst InRange (sym (c .same)) (read-ranged (c .bytes) (c .yes))
 pub few-items : (op : Operation) → Complete op → op .count ≤ mostItems
 few-items op c = ranged op c .few
 
--- the room is that of the largest configuration
-pub room-is : (config : Config) → mostObjects ≡ records config
-unfolding roomFor
-room-is config = refl
+-- the room that an accepted configuration's count asks for
+pub room-of : (config : Config) → Accepted config → {room : ℕ} → room ≡ roomFor (config .counts .objects)
+    → (config .counts .objects ≤ room) × (room ≤ mostObjects)
+room-of config a k = rw k (objects-room config (sound-of config a), room-most (config .counts .objects))
 
-pub room-small : (config : Config) (room : ℕ) → room ≡ records config → room ≤ mostNumber
-unfolding roomFor
-room-small config room k = omega arith
+pub room-small : (room : ℕ) → room ≤ mostObjects → room ≤ mostNumber
+room-small room h = omega arith
 
 -- the state that would follow
 module _ (config : Config) (room : ℕ) (area : List ℕ) (op : Operation) (f : Family) (a : Actor)
@@ -129,9 +126,9 @@ module _ (config : Config) (room : ℕ) (area : List ℕ) (op : Operation) (f : 
       omega (arith, from1to-high (objectAt op i) (config .counts .objects) x, few-objects)
 
   next-formed : (g : Family) → stores g ≡ true → q11 config op g a ≡ true → q13 config op g ≡ true
-      → Formed config (view (records config) area) → Formed config (apply config op g a (view (records config) area))
-  next-formed Write s p q h = write-formed config sound op (view (records config) area) h a p q
-  next-formed Copy s p q h = copy-formed config sound op (view (records config) area) h a p q
+      → Formed room config (view room area) → Formed room config (apply config op g a (view room area))
+  next-formed Write s p q h = write-formed room config (ready .fits) op (view room area) h a p q
+  next-formed Copy s p q h = copy-formed room config (ready .fits) op (view room area) h a p q
   next-formed Create s p q h = absurd (false≢true s)
   next-formed Destroy s p q h = absurd (false≢true s)
   next-formed Activate s p q h = absurd (false≢true s)
@@ -157,16 +154,9 @@ module _ (config : Config) (room : ℕ) (area : List ℕ) (op : Operation) (f : 
 
     pub next-searchable : stores f ≡ true → Searchable config room s
     next-searchable t =
-        at-room config room (ready .records) sound s next-long
-        (subst (λ (b : State). wellFormed room config b ≡ true) (sym next-view) right)
-      where
-        right : wellFormed room config (apply config op f a (view room area)) ≡ true
-        right =
-            subst (λ (n : ℕ). wellFormed n config (view n area) ≡ true
-            → wellFormed n config (apply config op f a (view n area)) ≡ true) (sym (ready .records))
-            (λ h. formed-to config (apply config op f a (view (records config) area))
-            (next-formed f t (asked .p11) (asked .p13) (formed-of config (view (records config) area) h)))
-            (ready .formed)
+        searchable config room (ready .fits) sound s next-long
+        (subst (λ (b : State). Formed room config b) (sym next-view)
+        (next-formed f t (asked .p11) (asked .p13) (formed-of room config (view room area) (ready .formed))))
 
 -- all questions are answered with yes
 pub passed-fit : (config : Config) (room : ℕ) (area answer : List ℕ) (op : Operation) → Ready config room area
@@ -178,10 +168,14 @@ passed-fit config room area answer op ready complete e z d =
     (record { complete = complete; family = refl; actor = refl; p11 = p .p11; p13 = p .p13 }) area answer
     (ready .long) d
 
--- the scratch area has the state area's length
-pub scratch-length : (config : Config) (room : ℕ) (area : List ℕ) → Ready config room area → 1728 ≡ areaLength room
-unfolding roomFor
-scratch-length config room area ready = ap (λ (n : ℕ). areaLength n) (sym (ready .records))
+-- a scratch area for `most` records is long enough, and what is lent of it has the length that is asked for
+module _ (most room : ℕ) (op : Operation) (area scratch : List ℕ) (fits : room ≤ most)
+    (fit : Fit room op area (replicate answerBytes 0)) (long : length scratch ≡ areaLength most) where
+  pub scratch-lent : length area ≡ length (take (length area) scratch)
+  scratch-lent = sym (length-take-le (length area) scratch (omega (arith, fit .area, fits, long)))
+
+  pub scratch-long : length (take (length area) scratch) ≡ areaLength room
+  scratch-long = sym scratch-lent ∙ fit .area
 
 -- a copy of the whole area
 pub copied : (area next : List ℕ) → length area ≡ length next → splice next 0 (part area 0 (length next)) ≡ area

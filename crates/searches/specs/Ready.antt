@@ -1,11 +1,12 @@
 -- What the questions that are answered with yes give to those that follow.
-use Prim.Native.Nat.{ℕ}
+use Prim.Native.Nat.{ℕ, _≤_}
 use mathlib.Core.Path.{_≡_}
 use mathlib.Core.Bool.{true}
 use mathlib.Core.List.{List}
 use lib.ListN.{length}
+use Rattle.model.specs.Config.{mostObjects}
 use Rattle.model.specs.ConfigFile.{load}
-use Rattle.model.specs.State.{records, areaLength, view, wellFormed}
+use Rattle.model.specs.State.{areaLength, view, wellFormed}
 use Rattle.model.specs.Operation.{familyOf, actorOf, readOperation}
 use Rattle.model.specs.Questions.{q11, q13}
 use Rattle.model.specs.declared.Family.{Family}
@@ -26,10 +27,11 @@ pub record Searchable (config : Config) (room : ℕ) (area : List ℕ) : Type 0 
   pub owners : OwnersOk (config .counts) (config .objects .class) (config .objects .owner)
   pub held : AreaOk (config .counts) (config .objects .kind) area room
 
--- questions 1 to 9
+-- questions 1 to 9, of an area with a record for each object, and no more than there can be objects
 pub record Ready (config : Config) (room : ℕ) (area : List ℕ) : Type 0 where
   pub accepted : Accepted config
-  pub records : room ≡ records config
+  pub fits : config .counts .objects ≤ room
+  pub most : room ≤ mostObjects
   pub long : length area ≡ areaLength room
   pub formed : wellFormed room config (view room area) ≡ true
   pub searchable : Searchable config room area

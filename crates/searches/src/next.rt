@@ -1,6 +1,8 @@
 // Question 19: in the state that would follow no entry crosses.
 ghost use mathlib.Core.Path.{_≡_};
+ghost use Prim.Native.Nat.{_≤_};
 ghost use lib.ListN.{length, replicate};
+ghost use Rattle.model.specs.Config.{mostObjects, smallRoom};
 ghost use Rattle.model.specs.State.{areaLength, view, layout};
 ghost use Rattle.model.specs.Effect.{answerBytes};
 ghost use Rattle.model.specs.Closure.{confined};
@@ -19,7 +21,9 @@ use model::Actor;
 use model::Config;
 use model::Family;
 use model::Operation;
+use model::SMALL_ROOM;
 use state::AREA_BYTES;
+use state::SMALL_AREA_BYTES;
 use state::bytes::copy;
 
 // A search found nothing.
@@ -49,15 +53,13 @@ fn is_confined(config: Config, area: &[u8], room: usize) -> bool
     requires { ⌜ Searchable config room (now area) ⌝ }
     ensures { λ r. ⌜ r ≡ confined config (view room (now (area .entry))) ⌝ }
 {
-    let t = config.objects;
-    let w = config.values;
     let found = crossing(
         config.counts,
-        &t.kind,
-        &t.class,
-        &t.owner,
-        &w.count,
-        &w.entries,
+        &config.objects.kind,
+        &config.objects.class,
+        &config.objects.owner,
+        &config.values.count,
+        &config.values.entries,
         area,
         room,
     );
@@ -83,6 +85,33 @@ fn is_confined_after(
     is_confined(config, &next[..], room)
 }
 
+// The same with a scratch area of a small room's length, which is lent whole: clearing the longest would cost a small
+// line a third of its call.
+fn is_confined_small(area: &[u8], room: usize, config: Config, op: Operation) -> bool
+    requires { ⌜ room ≡ smallRoom ⌝ }
+    requires { ⌜ Fit room op (now area) (replicate answerBytes 0) ⌝ }
+    requires { ⌜ Searchable config room (layout (applied config op (view room (now area)))) ⌝ }
+    ensures { λ r.
+        ⌜ r ≡ confined config (view room (layout (applied config op (view room (now (area .entry)))))) ⌝ }
+{
+    let mut next = [0u8; SMALL_AREA_BYTES];
+    follow(area, &mut next, room, config, op);
+    is_confined(config, &next, room)
+}
+
+// The same with a scratch area for every room. What is lent of it has the length of the area at hand.
+fn is_confined_wide(area: &[u8], room: usize, config: Config, op: Operation) -> bool
+    requires { ⌜ room ≤ mostObjects ⌝ }
+    requires { ⌜ Fit room op (now area) (replicate answerBytes 0) ⌝ }
+    requires { ⌜ Searchable config room (layout (applied config op (view room (now area)))) ⌝ }
+    ensures { λ r.
+        ⌜ r ≡ confined config (view room (layout (applied config op (view room (now (area .entry)))))) ⌝ }
+{
+    let mut next = [0u8; AREA_BYTES];
+    let n = area.len();
+    is_confined_after(area, &mut next[..n], room, config, op)
+}
+
 // 19: after a write or copy, unless a device acts, no entry crosses.
 pub fn stays_confined(
     config: Config,
@@ -102,6 +131,8 @@ pub fn stays_confined(
     if !is_storing(f) {
         return true;
     }
-    let mut next = [0u8; AREA_BYTES];
-    is_confined_after(area, &mut next, room, config, op)
+    if room == SMALL_ROOM as usize {
+        return is_confined_small(area, room, config, op);
+    }
+    is_confined_wide(area, room, config, op)
 }

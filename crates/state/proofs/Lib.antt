@@ -4,4 +4,5 @@ pub mod Places
 pub mod Forms
 pub mod Words
 pub mod Records
+pub mod Idle
 pub mod Turns

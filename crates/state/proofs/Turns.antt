@@ -1,6 +1,7 @@
 -- Loops that change an object a turn: the state after some of them.
 use Prim.Native.Nat.{ℕ, zero, suc, _+_, _*_, _≤_, _<_}
 use mathlib.Core.Path.{_≡_, refl, sym, ap, _∙_}
+use mathlib.Core.Logic.{_⊎_, inl, inr}
 use mathlib.Core.List.{List, [], _∷_, _++_, append-nil}
 use mathlib.Core.Bool.{Bool, true, false, _&&_, cond}
 use native.Mathlib.Numerals.{add-one}
@@ -31,9 +32,11 @@ use Rattle.model.specs.declared.Config.{Config}
 use Rattle.model.proofs.Lists.{all-put, length-put, partly, partly-get, partly-more, partly-all}
 use Rattle.model.proofs.StateLaws.{Sixteen, Shape, view-layout}
 use Rattle.model.proofs.StateBytes.{layout-view}
+use Rattle.state.specs.Bytes.{Lesser}
 use Rattle.state.specs.Change.{withDriver, withDevice, withObject, withContent, objectsLent}
 use Rattle.state.specs.Fresh.{valued}
 use Rattle.state.proofs.Places.{view-shape}
+use Rattle.state.proofs.Idle.{idle-rest, lesser-end}
 
 -- what an area shows after one change
 module _ (room : ℕ) (s t : List ℕ) where
@@ -252,26 +255,41 @@ module _ (config : Config) (room : ℕ) where
   after-value s t v n true w e = after-content room s t n v w e
   after-value s t v n false w e = ap (view room) e ∙ view-layout room (view room s) (view-shape room s)
 
-  pub fresh-on : (i : ℕ) (s t : List ℕ) → view room s ≡ freshTo config room i → i < room
-      → t ≡ layout (valued config (i + 1) (view room s)) → view room t ≡ freshTo config room (i + 1)
+  pub fresh-on : (present i : ℕ) (s t : List ℕ) → view room s ≡ freshTo config room i → i < present
+      → Lesser (config .counts .objects) room present → t ≡ layout (valued config (i + 1) (view room s))
+      → view room t ≡ freshTo config room (i + 1)
   unfolding valued
-  fresh-on i s t inv l e =
+  fresh-on present i s t inv l p e =
       after-value s t (value (i + 1)) (i + 1) (isHardcoded (i + 1)) refl e
-      ∙ rw (inv, add-one i) (fresh-state i (isHardcoded (suc i)) (value (suc i)) l refl)
+      ∙ rw (inv, add-one i) (fresh-state i (isHardcoded (suc i)) (value (suc i)) (omega (arith, p .second)) refl)
 
-  pub fresh-end : (i : ℕ) (s₀ s : List ℕ) → s₀ ≡ replicate (areaLength room) 0 → length s ≡ length s₀
-      → view room s ≡ freshTo config room i → i ≤ room → room ≤ i → s ≡ layout (fresh room config)
+  -- nothing is stored in records of absent objects
+  absent-cleared : (m i : ℕ) → config .counts .objects < m
+      → freshContent config m ≡ getD (replicate room cleared) i cleared
+  absent-cleared m i h = rw (lt-leb m (config .counts .objects) h) (sym (cleared-at room i))
+
+  pub fresh-end : (present i : ℕ) (s₀ s : List ℕ) → s₀ ≡ replicate (areaLength room) 0 → length s ≡ length s₀
+      → view room s ≡ freshTo config room i → Lesser (config .counts .objects) room present → i ≤ present
+      → present ≤ i → s ≡ layout (fresh room config)
   unfolding freshTo fresh
-  fresh-end i s₀ s z l inv h k =
-      let q : i ≡ length (replicate room cleared) = omega (arith, length-replicate room cleared) in
+  fresh-end present i s₀ s z l inv p h k =
       sym (layout-view room s (zero-length (areaLength room) s₀ s z l)) ∙ ap layout (inv ∙ (λ j. record {
         status = replicate partitionCount 0;
         driver = replicate mostDrivers 0;
         device = replicate mostDevices 0;
         object = replicate room 0;
-        content = (ap (λ (m : ℕ). partly (λ n c. freshContent config n) m (replicate room cleared)) q
-            ∙ partly-all (λ n c. freshContent config n) (replicate room cleared)) j;
+        content = go (lesser-end (config .counts .objects) room present i p k) j;
       }))
+    where
+      f : ℕ → List ℕ → List ℕ
+      f n c = freshContent config n
+
+      go : (config .counts .objects ≤ i) ⊎ (room ≤ i)
+          → partly f i (replicate room cleared) ≡ number 0 f (replicate room cleared)
+      go (inl q) = idle-rest f cleared 0 i (replicate room cleared) (λ m n r. absent-cleared m n (omega arith))
+      go (inr q) =
+          let e : i ≡ length (replicate room cleared) = omega (arith, p .second, length-replicate room cleared) in
+          ap (λ (m : ℕ). partly f m (replicate room cleared)) e ∙ partly-all f (replicate room cleared)
 
 pub zero-whole : (room : ℕ) (s t : List ℕ) → length s ≡ areaLength room → t ≡ replicate (length s) 0
     → t ≡ replicate (areaLength room) 0

@@ -3,9 +3,16 @@ ghost use mathlib.Core.Path.{_≡_};
 ghost use Prim.Native.Nat.{_+_, _≤_, _<_};
 ghost use lib.ListN.{length};
 ghost use Rattle.model.specs.State.{contentBytes, valueBytes};
-ghost use Rattle.state.specs.Bytes.{Greater, Highest, four, wordAt};
+ghost use Rattle.state.specs.Bytes.{Greater, Highest, Lesser, four, wordAt};
 ghost use Rattle.state.specs.Splice.{splice, part};
 use model::CONTENT_BYTES;
+
+// The lesser of two numbers.
+pub fn lesser(a: usize, b: usize) -> usize
+    ensures { λ r. ⌜ Lesser a b r ⌝ }
+{
+    if a < b { a } else { b }
+}
 
 // The greater of two bytes.
 fn greater(a: u8, b: u8) -> u8

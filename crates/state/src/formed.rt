@@ -6,7 +6,6 @@ ghost use lib.ListN.{length};
 ghost use Rattle.model.specs.Config.{mostDrivers, mostDevices};
 ghost use Rattle.model.specs.State.{contentBytes, driversFrom, devicesFrom, recordsFrom};
 ghost use Rattle.model.specs.State.{areaLength, view, wellFormed};
-ghost use Rattle.state.specs.Bytes.{Lesser};
 ghost use Rattle.state.specs.Splice.{part};
 ghost use Rattle.state.specs.Change.{objectsLent, lent};
 ghost use Rattle.state.specs.Formed.{statusesRight, isAssigned, assignmentRight, assignmentsRight};
@@ -22,6 +21,7 @@ use crate::PARTITIONS;
 use crate::RECORD_BYTES;
 use crate::RECORDS_FROM;
 use crate::bytes::highest;
+use crate::bytes::lesser;
 use crate::bytes::wide_word;
 use crate::bytes::word;
 use crate::look::status;
@@ -41,13 +41,6 @@ const WORD_BYTES: usize = CONTENT_BYTES / 2;
 
 // How many values a byte has.
 const BYTE_VALUES: usize = 256;
-
-// The lesser of two numbers.
-fn lesser(a: usize, b: usize) -> usize
-    ensures { λ r. ⌜ Lesser a b r ⌝ }
-{
-    if a < b { a } else { b }
-}
 
 // Every status is 0, 1 or 2, and that of partition 0 is 0.
 fn statuses_formed(area: &[u8], room: usize) -> bool

@@ -5,6 +5,7 @@ ghost use lib.ListN.{length, replicate};
 ghost use Rattle.model.specs.State.{areaLength, view, layout, fresh};
 ghost use Rattle.state.specs.Change.{objectsLent};
 ghost use Rattle.state.specs.Fresh.{valued};
+use crate::bytes::lesser;
 use crate::bytes::value_bytes;
 use crate::change::store;
 use model::Config;
@@ -64,8 +65,9 @@ fn store_values<'a>(
         ⌜ now (area .exit) ≡ layout (fresh room
         (objectsLent objects 0 (now (kind .entry)) [] (now (owner .entry)) (now (hardcoded .entry)))) ⌝ }
 {
+    let present = lesser(objects, room);
     let mut i = 0;
-    while i < room {
+    while i < present {
         i += 1;
         store_hardcoded(area, room, objects, kind, owner, hardcoded, i);
     }

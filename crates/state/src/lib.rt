@@ -5,11 +5,13 @@ pub mod change;
 pub mod formed;
 pub mod fresh;
 pub mod look;
+pub mod room;
 
 use model::CONTENT_BYTES;
 use model::MOST_DEVICES;
 use model::MOST_DRIVERS;
 use model::MOST_OBJECTS;
+use model::SMALL_ROOM;
 
 // The area (document 01, 'State area'): the status of partitions 0 to 63, a byte for each driver, a byte for each
 // device, and a record for each object: its partition, then its contents.
@@ -30,7 +32,9 @@ pub const DEVICES_FROM: usize = DRIVERS_FROM + DRIVER_BYTES;
 
 pub const RECORDS_FROM: usize = DEVICES_FROM + DEVICE_BYTES;
 
-// The length of an area with a record for each object that there may be.
+// The length of the area of a small room, and of the longest, which has a record for each object that there may be.
+pub const SMALL_AREA_BYTES: usize = RECORDS_FROM + RECORD_BYTES * (SMALL_ROOM as usize);
+
 pub const AREA_BYTES: usize = RECORDS_FROM + RECORD_BYTES * (MOST_OBJECTS as usize);
 
 // The status of a partition: never used, existing, destroyed; and the largest.

@@ -13,6 +13,7 @@ use crate::PARTITIONS;
 use crate::RECORD_BYTES;
 use crate::RECORDS_FROM;
 use crate::bytes::load;
+use crate::room::area_length;
 use model::CONTENT_BYTES;
 
 // Question 7: has the area the length for `room` object records?
@@ -20,7 +21,7 @@ pub fn right_length(area: &[u8], room: usize) -> bool
     requires { ⌜ room ≤ mostNumber ⌝ }
     ensures { λ r. ⌜ r ≡ eqb (length (now (area .entry))) (areaLength room) ⌝ }
 {
-    area.len() == RECORDS_FROM + RECORD_BYTES * room
+    area.len() == area_length(room)
 }
 
 // The status of partition p.

@@ -11,7 +11,6 @@ use Rattle.model.specs.Number.{mostBytes, bytesOf}
 use Rattle.model.specs.Config.{mostEntries, entryPlace}
 use Rattle.model.specs.ConfigFile.{countsRow}
 use Rattle.model.specs.ConfigWrite.{
-  mostValueBytes,
   rowsFrom,
   countsNumbers,
   objectRows,
@@ -34,7 +33,7 @@ use Rattle.model.proofs.FileRead.{FewCounts}
 use Rattle.model.proofs.FileWritten.{few-entries, ranges-asked}
 use Rattle.page.specs.Page.{Placed}
 use Rattle.page.proofs.Laying.{placed-nil, placed-then}
-use Rattle.writer.specs.Bytes.{three, objectBytes, deviceBytes, entryBytesOf, valueBytes}
+use Rattle.writer.specs.Bytes.{anyValueBytes, three, objectBytes, deviceBytes, entryBytesOf, valueBytes}
 
 -- a number, three numbers, and the counts
 module _ (at : ℕ) (out : List ℕ) where
@@ -118,7 +117,7 @@ unfolding entryBytesOf
 entry-most entries v j = three-most _ _ _
 
 pub value-most : (count entries : List ℕ) (v : ℕ) → getD count v 0 ≤ mostEntries
-    → length (valueBytes count entries v) ≤ mostValueBytes
+    → length (valueBytes count entries v) ≤ anyValueBytes
 unfolding valueBytes
 value-most count entries v h =
     let n = getD count v 0 in
@@ -134,7 +133,7 @@ value-most count entries v h =
 module _ (count entries : List ℕ) (v : ℕ) (few : getD count v 0 ≤ mostEntries) (at : ℕ) (out : List ℕ) where
   pub value-placed : {p q : ℕ} {out₁ out₂ : List ℕ} → Placed (bytesOf (getD count v 0)) at out p out₁
       → Placed (rowsFrom (entryBytesOf entries v) (getD count v 0) 0) p out₁ q out₂
-      → Placed (valueBytes count entries v) at out q out₂ × (q ≤ at + mostValueBytes)
+      → Placed (valueBytes count entries v) at out q out₂ × (q ≤ at + anyValueBytes)
   unfolding valueBytes
   value-placed {p} {q} {out₁} {out₂} h k =
       let n = getD count v 0 in

@@ -1,11 +1,18 @@
 -- The bytes of a configuration's file by the columns that functions are lent. proofs/Putting has that they are the
 -- model's.
-use Prim.Native.Nat.{ℕ, _+_}
+use Prim.Native.Nat.{ℕ, _+_, _*_}
 use mathlib.Core.List.{List, _++_}
 use lib.ListN.{getD}
-use Rattle.model.specs.Number.{bytesOf}
-use Rattle.model.specs.Config.{entryPlace}
+use Rattle.model.specs.Number.{mostBytes, bytesOf}
+use Rattle.model.specs.Config.{mostDevices, mostObjects, mostValues, mostEntries, entryPlace}
 use Rattle.model.specs.ConfigWrite.{rowsFrom}
+
+-- how long a value is at most, and a file, whatever numbers stand in the columns: as long as each can be
+abbrev pub anyValueBytes : ℕ
+anyValueBytes = mostBytes * (1 + 3 * mostEntries)
+
+abbrev pub anyFileBytes : ℕ
+anyFileBytes = mostBytes * (5 + 3 * mostObjects + mostDevices) + anyValueBytes * mostValues
 
 -- three numbers, one after the other
 unfoldable pub three : ℕ → ℕ → ℕ → List ℕ

@@ -7,9 +7,10 @@ ghost use lib.ListN.{getD};
 ghost use Rattle.model.specs.Number.{mostNumber, mostBytes, bytesOf};
 ghost use Rattle.model.specs.Config.{mostDevices, mostObjects, mostValues, mostEntries};
 ghost use Rattle.model.specs.ConfigFile.{countsRow};
-ghost use Rattle.model.specs.ConfigWrite.{mostValueBytes, mostWritten, countsNumbers, rowsFrom, rowBytes};
+ghost use Rattle.model.specs.ConfigWrite.{countsNumbers, rowsFrom, rowBytes};
 ghost use Rattle.model.specs.ConfigWrite.{inRanges, fileOf};
 ghost use Rattle.page.specs.Page.{Placed};
+ghost use Rattle.writer.specs.Bytes.{anyValueBytes, anyFileBytes};
 ghost use Rattle.writer.specs.Bytes.{three, objectBytes, deviceBytes, entryBytesOf, valueBytes};
 use model::Config;
 use model::Counts;
@@ -36,7 +37,7 @@ fn put_number(out: &mut [u8], at: usize, b: u8) -> usize
 
 // Three numbers, one after the other.
 fn put_three(out: &mut [u8], at: usize, a: u8, b: u8, c: u8) -> usize
-    requires { ⌜ at + mostWritten ≤ mostNumber ⌝ }
+    requires { ⌜ at + anyFileBytes ≤ mostNumber ⌝ }
     ensures { λ r. ⌜ Placed (three a b c) at (now (out .entry)) r (now (out .exit)) ⌝ }
     ensures { λ r. ⌜ r ≤ at + 3 * mostBytes ⌝ }
 {
@@ -66,7 +67,7 @@ fn put_objects<'a>(
     owner: &'a [u8; OBJECT_SLOTS],
 ) -> usize
     requires { ⌜ n ≤ mostObjects ⌝ }
-    requires { ⌜ at ≤ mostWritten ⌝ }
+    requires { ⌜ at ≤ anyFileBytes ⌝ }
     ensures { λ r.
         ⌜ Placed (rowsFrom (objectBytes (now (kind .entry)) (now (class .entry)) (now (owner .entry))) n 0) at
         (now (out .entry)) r (now (out .exit)) ⌝ }
@@ -85,7 +86,7 @@ fn put_objects<'a>(
 // The hardcoded value numbers of the devices 1 to n.
 fn put_devices(out: &mut [u8], at: usize, n: u8, hardcoded: &[u8; DEVICE_SLOTS]) -> usize
     requires { ⌜ n ≤ mostDevices ⌝ }
-    requires { ⌜ at ≤ mostWritten ⌝ }
+    requires { ⌜ at ≤ anyFileBytes ⌝ }
     ensures { λ r.
         ⌜ Placed (rowsFrom (deviceBytes (now (hardcoded .entry))) n 0) at (now (out .entry)) r (now (out .exit)) ⌝ }
     ensures { λ r. ⌜ r ≤ at + mostBytes * n ⌝ }
@@ -103,7 +104,7 @@ fn put_devices(out: &mut [u8], at: usize, n: u8, hardcoded: &[u8; DEVICE_SLOTS])
 // Entries 1 to n of value v.
 fn put_entries(out: &mut [u8], at: usize, entries: &[u8; ENTRY_SLOTS], v: u8, n: u8) -> usize
     requires { ⌜ (v ≤ mostValues) × (n ≤ mostEntries) ⌝ }
-    requires { ⌜ at + 2 * mostWritten ≤ mostNumber ⌝ }
+    requires { ⌜ at + 2 * anyFileBytes ≤ mostNumber ⌝ }
     ensures { λ r.
         ⌜ Placed (rowsFrom (entryBytesOf (now (entries .entry)) v) n 0) at (now (out .entry)) r (now (out .exit)) ⌝ }
 {
@@ -127,11 +128,11 @@ fn put_value<'a>(
     v: u8,
 ) -> usize
     requires { ⌜ (v ≤ mostValues) × (getD (now count) v 0 ≤ mostEntries) ⌝ }
-    requires { ⌜ at + 3 * mostWritten ≤ mostNumber ⌝ }
+    requires { ⌜ at + 3 * anyFileBytes ≤ mostNumber ⌝ }
     ensures { λ r.
         ⌜ Placed (valueBytes (now (count .entry)) (now (entries .entry)) v) at (now (out .entry)) r
         (now (out .exit)) ⌝ }
-    ensures { λ r. ⌜ r ≤ at + mostValueBytes ⌝ }
+    ensures { λ r. ⌜ r ≤ at + anyValueBytes ⌝ }
 {
     let i = v as usize;
     let n = count[i];
@@ -149,7 +150,7 @@ fn put_values<'a>(
 ) -> usize
     requires { ⌜ n ≤ mostValues ⌝ }
     requires { ⌜ ((v : ℕ) → 1 ≤ v → v ≤ n → getD (now count) v 0 ≤ mostEntries) ⌝ }
-    requires { ⌜ at ≤ mostWritten ⌝ }
+    requires { ⌜ at ≤ anyFileBytes ⌝ }
     ensures { λ r.
         ⌜ Placed (rowsFrom (valueBytes (now (count .entry)) (now (entries .entry))) n 0) at (now (out .entry)) r
         (now (out .exit)) ⌝ }

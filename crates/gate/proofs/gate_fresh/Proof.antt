@@ -3,6 +3,7 @@ use mathlib.Core.Path.{sym, _∙_}
 use borrow.Author.Tests.{not-true, not-false, eqb-true}
 use borrow.Author.Needs.{needs}
 use Rattle.gate.proofs.Fresh
+use Rattle.gate.proofs.Needed
 use Rattle.gate.proofs.gate_fresh.Statement.{statement}
 use Rattle.gate.proofs.gate_fresh.Tie as tie
 
@@ -15,19 +16,20 @@ cast-result c = search needs
 returns : tie.Need-returns
 returns c = Fresh.file-refused _ _ (c .before .before .before .load .ensures) (c .before .if1 .taken)
 
-cast-room : tie.Need-cast-room
-cast-room c = search needs
+room-for-requires : tie.Need-room-for-requires
+room-for-requires c κs = search needs
 
 right-length-requires : tie.Need-right-length-requires
-right-length-requires c κs = search needs
+right-length-requires c κs = Needed.room-small _ (c .before .room-for .ensures)
 
 same-length : tie.Need-same-length
 same-length c = search needs
 
 returns-2 : tie.Need-returns-2
 returns-2 c =
-    Fresh.other-length _ _ (c .before .before .before .before .before .before .load .ensures)
-    (c .before .before .before .before .if1 .left) (c .before .right-length .ensures)
+    let c₁ = c .before .before .before in
+    Fresh.other-length _ _ (c₁ .before .before .before .before .load .ensures) (c₁ .before .before .if1 .left)
+    (c₁ .room-for .ensures) (c .before .right-length .ensures)
     (not-true (c .before .right-length .result) (c .if2 .taken))
 
 make-fresh-requires : tie.Need-make-fresh-requires
@@ -40,9 +42,9 @@ same-length-2 c = search needs
 
 returns-3 : tie.Need-returns-3
 returns-3 c =
-    Fresh.made _ _ (c .before .before .before .before .before .before .before .before .before .before .load .ensures)
-    (c .before .before .before .before .before .before .before .before .if1 .left)
-    (c .before .before .before .before .before .right-length .ensures)
+    let c₁ = c .before .before .before .before .before .before .before in
+    Fresh.made _ _ (c₁ .before .before .before .before .load .ensures) (c₁ .before .before .if1 .left)
+    (c₁ .room-for .ensures) (c .before .before .before .before .before .right-length .ensures)
     (not-false (c .before .before .before .before .before .right-length .result)
     (c .before .before .before .before .if2 .left)) (c .before .before .make-fresh .ensures)
 
@@ -53,7 +55,7 @@ gate-fresh-spec =
     load-requires
     cast-result
     returns
-    cast-room
+    room-for-requires
     right-length-requires
     same-length
     returns-2

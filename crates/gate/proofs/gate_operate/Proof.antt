@@ -17,14 +17,14 @@ returns c =
     Calling.file-refused (a .args .line .now) (a .args .state .now) (a .args .rec .now) (a .args .answer .now)
     (c₁ .load .ensures) (c .before .if1 .taken)
 
-cast-operate-on : tie.Need-cast-operate-on
-cast-operate-on c = search needs
+room-for-requires : tie.Need-room-for-requires
+room-for-requires c κs = search needs
 
 operate-on-requires : tie.Need-operate-on-requires
-operate-on-requires c κs = (
-  Readying.accepted-of _ (c .before .before .before .before .load .ensures) (c .before .before .if1 .left),
-  Readying.room-is (c .before .before .before .before .load .result .config),
-)
+operate-on-requires c κs =
+    let c₁ = c .before .before in
+    let a = Readying.accepted-of _ (c₁ .before .before .before .load .ensures) (c₁ .before .if1 .left) in
+    (a, Readying.room-of _ a (c₁ .room-for .ensures))
 
 same-length : tie.Need-same-length
 same-length c = search needs
@@ -35,9 +35,10 @@ same-length-2 c = search needs
 returns-2 : tie.Need-returns-2
 returns-2 c =
     let c₁ = c .before .before .before .before in let c₂ = c₁ .before .before .before in
-    let a = c₂ .before .before .before .before .before .before .before in
+    let a = c₂ .before .before .before .before .before .before .before .before in
     Calling.file-accepted (a .args .line .now) (a .args .state .now) (a .args .rec .now) (a .args .answer .now)
-    (c₂ .before .before .load .ensures) (c₂ .if1 .left) (c₁ .operate-on .ensures)
+    (c₂ .before .before .before .load .ensures) (c₂ .before .if1 .left) (c₂ .room-for .ensures)
+    (c₁ .operate-on .ensures)
 
 pub gate-operate-spec : {M : Type 1} → statement M
 gate-operate-spec =
@@ -46,7 +47,7 @@ gate-operate-spec =
     load-requires
     cast-result
     returns
-    cast-operate-on
+    room-for-requires
     operate-on-requires
     same-length
     same-length-2

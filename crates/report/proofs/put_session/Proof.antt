@@ -1,41 +1,40 @@
--- `report::put_session` meets its contract: the rows from a fresh state on. Assumes nothing.
+-- `report::put_session` meets its contract: the area that is lent has the length that the line needs. Assumes nothing.
+use mathlib.Core.Path.{refl}
 use Rattle.report.proofs.Reporting
 use borrow.Author.Needs.{needs}
 use Rattle.report.proofs.put_session.Statement.{statement}
 use Rattle.report.proofs.put_session.Tie as tie
 
-slice-aggregate-gate-fresh : tie.Need-slice-aggregate-gate-fresh
-slice-aggregate-gate-fresh c = search needs
+gate-state-bytes-requires : tie.Need-gate-state-bytes-requires
+gate-state-bytes-requires c κs = search needs
 
-gate-fresh-requires : tie.Need-gate-fresh-requires
-gate-fresh-requires c κs = search needs
+array-borrow-prefix-area : tie.Need-array-borrow-prefix-area
+array-borrow-prefix-area c =
+    Reporting.area-fits _ (c .before .before .before .before .pre) _ (c .gate-state-bytes .ensures)
 
-slice-aggregate-put-rows : tie.Need-slice-aggregate-put-rows
-slice-aggregate-put-rows c = search needs
+slice-aggregate-put-from-fresh : tie.Need-slice-aggregate-put-from-fresh
+slice-aggregate-put-from-fresh c =
+    let c₁ = c .before in
+    Reporting.area-lent _ (c₁ .before .before .before .before .pre) _ (c₁ .gate-state-bytes .ensures) _ refl
 
-slice-aggregate-put-rows-2 : tie.Need-slice-aggregate-put-rows-2
-slice-aggregate-put-rows-2 c = search needs
-
-put-rows-requires : tie.Need-put-rows-requires
-put-rows-requires c κs = search needs
+put-from-fresh-requires : tie.Need-put-from-fresh-requires
+put-from-fresh-requires c κs =
+    let c₁ = c .before .before in
+    Reporting.area-blank _ (c₁ .before .before .before .before .pre) _ (c₁ .gate-state-bytes .ensures) _ refl
 
 same-length : tie.Need-same-length
 same-length c = search needs
 
 returns : tie.Need-returns
-returns c =
-    let c₁ = c .before .before .before .before in let c₂ = c₁ .before .before .before .before .before in let c₃ = c₂
-    .before .before .before .before .before in Reporting.from-fresh (c₃ .args .line .now) (c₃ .args .session .now) (c₃
-    .args .out .now) _ (c₂ .gate-fresh .ensures .1) (c₁ .put-rows .ensures .0)
+returns c = search needs
 
 pub put-session-spec : {M : Type 1} → statement M
 put-session-spec =
     tie.close
     (tie.spec
-    slice-aggregate-gate-fresh
-    gate-fresh-requires
-    slice-aggregate-put-rows
-    slice-aggregate-put-rows-2
-    put-rows-requires
+    gate-state-bytes-requires
+    array-borrow-prefix-area
+    slice-aggregate-put-from-fresh
+    put-from-fresh-requires
     same-length
     returns)

@@ -45,7 +45,8 @@ returns-3 c =
     .before .put-line .ensures)
 
 put-session-requires : tie.Need-put-session-requires
-put-session-requires c κs = search needs
+put-session-requires c κs =
+    let c₁ = c .before in Reporting.accepted-file _ (c₁ .before .gate-load-check .ensures) (c₁ .if3 .left)
 
 same-length-4 : tie.Need-same-length-4
 same-length-4 c = search needs

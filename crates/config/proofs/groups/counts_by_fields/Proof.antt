@@ -2,7 +2,7 @@
 -- an `on-stop`. Assumes nothing.
 use mathlib.Core.Path.{refl}
 use borrow.Author.Needs.{needs}
-use Rattle.model.specs.ConfigFile.{countsAt}
+use Rattle.model.specs.ConfigFile.{countsTo}
 use Rattle.config.proofs.Readers
 use Rattle.config.proofs.groups.counts_by_fields.Statement.{statement}
 use Rattle.config.proofs.groups.counts_by_fields.Tie as tie
@@ -20,7 +20,7 @@ stopped-requires : tie.Need-stopped-requires
 stopped-requires c κs = search needs
 
 returns : tie.Need-returns
-unfolding countsAt
+unfolding countsTo
 returns c =
     Readers.on-stop _ _ _ (c .before .before .before .read-field .ensures) (c .before .enum-told .given .1)
     (rw (c .stopped .ensures))
@@ -38,7 +38,7 @@ stopped-requires-2 : tie.Need-stopped-requires-2
 stopped-requires-2 c κs = search needs
 
 returns-2 : tie.Need-returns-2
-unfolding countsAt
+unfolding countsTo
 returns-2 c =
     Readers.on-go _ _ _ (c .before .before .before .before .before .before .before .read-field .ensures)
     (c .before .before .before .before .before .f .given .1)
@@ -58,7 +58,7 @@ stopped-requires-3 : tie.Need-stopped-requires-3
 stopped-requires-3 c κs = search needs
 
 returns-3 : tie.Need-returns-3
-unfolding countsAt
+unfolding countsTo
 returns-3 c =
     Readers.on-go _ _ _
     (c .before .before .before .before .before .before .before .before .before .before .before .read-field .ensures)
@@ -81,7 +81,7 @@ stopped-requires-4 : tie.Need-stopped-requires-4
 stopped-requires-4 c κs = search needs
 
 returns-4 : tie.Need-returns-4
-unfolding countsAt
+unfolding countsTo
 returns-4 c =
     Readers.on-go _ _ _
     (c .before .before .before .before .before .before .before .before .before .before .before .before .before .before
@@ -109,7 +109,7 @@ stopped-requires-5 : tie.Need-stopped-requires-5
 stopped-requires-5 c κs = search needs
 
 returns-5 : tie.Need-returns-5
-unfolding countsAt
+unfolding countsTo
 returns-5 c =
     Readers.on-go _ _ _
     (c .before .before .before .before .before .before .before .before .before .before .before .before .before .before
@@ -130,7 +130,7 @@ returns-5 c =
     (rw (c .stopped5 .ensures))))))
 
 returns-6 : tie.Need-returns-6
-unfolding countsAt
+unfolding countsTo
 returns-6 c =
     Readers.on-go _ _ _
     (c .before .before .before .before .before .before .before .before .before .before .before .before .before .before

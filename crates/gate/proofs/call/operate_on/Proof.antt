@@ -10,7 +10,7 @@ use Rattle.gate.proofs.call.operate_on.Tie as tie
 
 right-length-requires : tie.Need-right-length-requires
 right-length-requires c κs =
-    let a = c .before .before .before .before in Readying.room-small (a .args .t1) (a .args .room) (a .pre .1)
+    let a = c .before .before .before .before in Readying.room-small (a .args .room) (a .pre .1 .1)
 
 same-length : tie.Need-same-length
 same-length c = search needs
@@ -19,7 +19,7 @@ returns : tie.Need-returns
 returns c =
     let a = c .before .before .before .before .before .before in
     Calling.no-7 (a .args .t1) (a .args .room) (a .args .state .now) (a .args .rec .now) (a .args .answer .now)
-    (a .pre .1) (c .before .right-length .ensures) (not-true _ (c .if1 .taken))
+    (c .before .right-length .ensures) (not-true _ (c .if1 .taken))
 
 same-length-2 : tie.Need-same-length-2
 same-length-2 c = search needs
@@ -28,7 +28,7 @@ returns-2 : tie.Need-returns-2
 returns-2 c =
     let a = c .before .before .before .before .before .before .before in
     Calling.no-8 (a .args .t1) (a .args .room) (a .args .state .now) (a .args .rec .now) (a .args .answer .now)
-    (a .pre .1) (c .before .before .right-length .ensures) (not-false _ (c .before .if1 .left)) (c .if2 .taken)
+    (c .before .before .right-length .ensures) (not-false _ (c .before .if1 .left)) (c .if2 .taken)
 
 is-formed-requires : tie.Need-is-formed-requires
 is-formed-requires c κs =
@@ -43,7 +43,7 @@ returns-3 c =
     let c₁ = c .before .before .before .before .before .before .before .before .before in
     let a = c₁ .before .before .before .before .before .before .before in
     Calling.no-9 (a .args .t1) (a .args .room) (a .args .state .now) (a .args .rec .now) (a .args .answer .now)
-    (a .pre .1) (c₁ .before .before .right-length .ensures) (not-false _ (c₁ .before .if1 .left)) (c₁ .if2 .left)
+    (c₁ .before .before .right-length .ensures) (not-false _ (c₁ .before .if1 .left)) (c₁ .if2 .left)
     (whole-formed _ (a .args .t1) _ _ (c .before .is-formed .ensures)) (not-true _ (c .if3 .taken))
 
 read-operation-requires : tie.Need-read-operation-requires
@@ -61,7 +61,7 @@ returns-4 c =
     let c₂ = c₁ .before .before .before .before .before .before .before .before .before .before in
     let a = c₂ .before .before .before .before .before .before .before in
     Calling.no-10 (a .args .t1) (a .args .room) (a .args .state .now) (a .args .rec .now) (a .args .answer .now)
-    (a .pre .1) (c₂ .before .before .right-length .ensures) (not-false _ (c₂ .before .if1 .left)) (c₂ .if2 .left)
+    (c₂ .before .before .right-length .ensures) (not-false _ (c₂ .before .if1 .left)) (c₂ .if2 .left)
     (whole-formed _ (a .args .t1) _ _ (c₁ .before .before .is-formed .ensures))
     (not-false _ (c₁ .before .if3 .left)) (c₁ .read-operation .ensures .0)
     (c₁ .read-operation .ensures .1) (c .before .if4 .taken)
@@ -91,7 +91,7 @@ returns-5 c =
     let c₃ = c₂ .before .before .before .before .before .before .before .before .before in
     let a = c₃ .before .before .before .before .before .before .before in
     Calling.no-11 (a .args .t1) (a .args .room) (a .args .state .now) (a .args .rec .now) (a .args .answer .now)
-    (a .pre .1) (c₃ .before .before .right-length .ensures) (not-false _ (c₃ .before .if1 .left)) (c₃ .if2 .left)
+    (c₃ .before .before .right-length .ensures) (not-false _ (c₃ .before .if1 .left)) (c₃ .if2 .left)
     (whole-formed _ (a .args .t1) _ _ (c₂ .before .is-formed .ensures))
     (not-false _ (c₂ .if3 .left)) (c₁ .before .before .read-operation .ensures .0)
     (c₁ .before .before .read-operation .ensures .1) (c₁ .if4 .left) (c .before .judge-all .ensures) (c .if5 .taken)
@@ -123,7 +123,7 @@ returns-6 c =
     let c₅ = c₄ .before .before .before .before .before .before .before .before .before in
     let a = c₅ .before .before .before .before .before .before .before in
     Calling.done (a .args .t1) (a .args .room) (a .args .state .now) (a .args .rec .now) (a .args .answer .now)
-    (a .pre .1) (c₅ .before .before .right-length .ensures) (not-false _ (c₅ .before .if1 .left)) (c₅ .if2 .left)
+    (c₅ .before .before .right-length .ensures) (not-false _ (c₅ .before .if1 .left)) (c₅ .if2 .left)
     (whole-formed _ (a .args .t1) _ _ (c₄ .before .is-formed .ensures))
     (not-false _ (c₄ .if3 .left)) (c₃ .before .before .read-operation .ensures .0)
     (c₃ .before .before .read-operation .ensures .1) (c₃ .if4 .left) (c₂ .before .judge-all .ensures) (c₂ .if5 .left)

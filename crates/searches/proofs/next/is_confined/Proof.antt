@@ -13,9 +13,9 @@ is-nothing-requires c κs = search needs
 
 returns : tie.Need-returns
 returns c =
-    let c₁ = c .before .before .before .before .before .before .before .before .before .before .before .before in
+    let a = c .before .before .before .before .before .before .before .before .before .before in
     c .is-nothing .ensures
-    ∙ nothing-of 18 (c .before .crossing .result) _ (c .before .crossing .ensures .0 (c₁ .args .config .devices))
+    ∙ nothing-of 18 (c .before .crossing .result) _ (c .before .crossing .ensures .0 (a .args .t1 .devices))
 
 pub is-confined-spec : {M : Type 1} → statement M
 is-confined-spec = tie.close (tie.spec crossing-requires is-nothing-requires returns)

@@ -2,9 +2,9 @@
 use Prim.Native.Nat.{_+_, _-_, _*_, _≤_}
 use mathlib.Core.Path.{_≡_}
 use lib.ListN.{length}
-use Rattle.model.specs.ConfigWrite.{mostValueBytes, rowsFrom}
+use Rattle.model.specs.ConfigWrite.{rowsFrom}
 use Rattle.page.specs.Page.{Placed}
-use Rattle.writer.specs.Bytes.{valueBytes}
+use Rattle.writer.specs.Bytes.{anyValueBytes, valueBytes}
 use Rattle.writer.proofs.Putting
 use borrow.Author.Needs.{needs}
 use Rattle.writer.proofs.put.put_values.Statement.{statement}
@@ -12,7 +12,7 @@ use Rattle.writer.proofs.put.put_values.Tie as tie
 
 abbrev Inv-loop : tie.InvT-loop
 Inv-loop out₀ at n count entries i₀ p₀ out i p =
-    (i ≤ n) × (length out ≡ length out₀) × (p ≤ at + mostValueBytes * i)
+    (i ≤ n) × (length out ≡ length out₀) × (p ≤ at + anyValueBytes * i)
     × Placed (rowsFrom (valueBytes count entries) i 0) at out₀ p out
 
 abbrev μ-loop : tie.MeasureT-loop
