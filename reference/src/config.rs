@@ -1,6 +1,8 @@
 //! The configuration (document 01: line) and its file: questions 1 to 6, put in the order of the file's numbers.
 
-use crate::limits::{EDITION, MAX_DEVICES, MAX_DRIVERS, MAX_ENTRIES, MAX_OBJECTS, MAX_VALUES};
+use crate::limits::{
+    EDITION, MAX_DEVICES, MAX_DRIVERS, MAX_ENTRIES, MAX_OBJECTS, MAX_VALUES, SMALL_ROOM, area_bytes, room_for,
+};
 use crate::varint::{Fault, Reader};
 use std::ops::RangeInclusive;
 
@@ -103,6 +105,21 @@ pub struct Config {
 impl Config {
     pub fn devices(&self) -> usize {
         self.hardcoded.len()
+    }
+
+    /// The object records in its state area, by the count of its objects alone.
+    pub fn room(&self) -> usize {
+        room_for(self.objects.len())
+    }
+
+    /// The length of its state area (question 7).
+    pub fn state_bytes(&self) -> usize {
+        area_bytes(self.room())
+    }
+
+    /// Whether it has more objects than a state area of the shorter length has room for.
+    pub fn is_wide(&self) -> bool {
+        self.objects.len() > SMALL_ROOM
     }
 
     pub fn object(&self, number: usize) -> Object {

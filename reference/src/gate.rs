@@ -1,9 +1,9 @@
-//! The functions of the gate, as the C interface has them: load check, fresh, operate, rewrite.
+//! The functions of the gate, as the C interface has them: load check, state bytes, fresh, operate, rewrite.
 
 use crate::closure::{Search, closure};
 use crate::config::{Config, load};
 use crate::effect;
-use crate::limits::{ANSWER_BYTES, CONTENT_BYTES, STATE_BYTES};
+use crate::limits::{ANSWER_BYTES, CONTENT_BYTES};
 use crate::memory::Memory;
 use crate::operation;
 use crate::questions::{Case, refusal};
@@ -15,11 +15,19 @@ pub fn load_check(line: &[u8]) -> u32 {
     load(line).err().map_or(0, u32::from)
 }
 
+/// Tells the length of a configuration's state area: questions 1 to 6. The answer has the form of `rewrite`'s.
+pub fn state_bytes(line: &[u8]) -> u64 {
+    coded(match load(line) {
+        Err(number) => Written::Refused(number),
+        Ok(config) => Written::Length(config.state_bytes()),
+    })
+}
+
 /// Makes the fresh state: questions 1 to 6, then 7. At any number but 0 the area is as it was.
 pub fn fresh(line: &[u8], state: &mut [u8]) -> u32 {
     match load(line) {
         Err(number) => u32::from(number),
-        Ok(_) if state.len() != STATE_BYTES => 7,
+        Ok(config) if state.len() != config.state_bytes() => 7,
         Ok(config) => {
             state.copy_from_slice(&State::fresh(&config).to_bytes());
             0
@@ -51,7 +59,7 @@ pub type Judgement = Result<(State, Vec<Contents>), u8>;
 
 fn judge_areas(search: Search, line: &[u8], state: &[u8], record: &[u8], answer_bytes: usize) -> Judgement {
     let config = load(line)?;
-    let state = State::from_bytes(state).ok_or(7)?;
+    let state = State::from_bytes(&config, state).ok_or(7)?;
     if answer_bytes < ANSWER_BYTES {
         return Err(8);
     }

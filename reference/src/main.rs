@@ -14,7 +14,7 @@ use std::process::ExitCode;
 const USAGE: &str = "usage:
   reference report FOLDER
   reference rewrite FOLDER OUT
-  reference generate [--seed S] [--count C] [--records R] [--size tiny|small|medium|deep|full] FOLDER
+  reference generate [--seed S] [--count C] [--records R] [--size tiny|small|medium|deep|full|wide] FOLDER
   reference sessions [--seed S] [--count C] [--bytes B] [--long yes] OUT_STDIN OUT_STDOUT
   reference coverage STDIN";
 
@@ -82,6 +82,7 @@ impl Options {
             Some("medium") => Size::Medium,
             Some("deep") => Size::Deep,
             Some("full") => Size::Full,
+            Some("wide") => Size::Wide,
             Some(_) => return Err(USAGE.to_string()),
         }))
     }

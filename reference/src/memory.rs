@@ -3,11 +3,12 @@
 //! places past the counts, nor entries past a value's count.
 
 use crate::config::Config;
-use crate::limits::{MAX_DEVICES, MAX_ENTRIES, MAX_OBJECTS, MAX_VALUES};
-use std::iter::repeat;
+use crate::limits::{MAX_DEVICES, MAX_ENTRIES, MAX_OBJECTS, MAX_VALUES, SMALL_ROOM};
 
 /// The numbers 1 to the most there can be, and place 0.
 pub const OBJECT_PLACES: usize = MAX_OBJECTS + 1;
+/// The places that small configurations use.
+pub const SMALL_OBJECT_PLACES: usize = SMALL_ROOM + 1;
 pub const DEVICE_PLACES: usize = MAX_DEVICES + 1;
 pub const VALUE_PLACES: usize = MAX_VALUES + 1;
 
@@ -17,8 +18,16 @@ pub const ENTRY_BYTES: usize = 3;
 pub const ENTRIES_BYTES: usize = ENTRY_BYTES * (MAX_ENTRIES * VALUE_PLACES + 1);
 
 pub const COUNTS: usize = 4;
-/// All of it: the counts, three columns for objects, one for devices, one for values, and the entries.
-pub const MEMORY_BYTES: usize = COUNTS + 3 * OBJECT_PLACES + DEVICE_PLACES + VALUE_PLACES + ENTRIES_BYTES;
+/// Kind, class and owner.
+pub const OBJECT_COLUMNS: usize = 3;
+/// All of it as a row of bytes.
+pub const MEMORY_BYTES: usize = row_bytes(OBJECT_PLACES);
+
+/// A row of bytes in which each column for objects has so many places: the counts, these columns, one for devices, one
+/// for values, and the entries.
+const fn row_bytes(places: usize) -> usize {
+    COUNTS + OBJECT_COLUMNS * places + DEVICE_PLACES + VALUE_PLACES + ENTRIES_BYTES
+}
 
 #[derive(Clone, Debug, PartialEq, Eq)]
 pub struct Memory {
@@ -86,13 +95,32 @@ impl Memory {
 
     /// The same from a row of bytes: those missing at its end are 0, and a longer row is none.
     pub fn from_bytes(bytes: &[u8]) -> Option<Memory> {
-        let mut bytes_and_zeros = bytes.iter().copied().chain(repeat(0));
-        (bytes.len() <= MEMORY_BYTES).then(|| Memory::filled(|| bytes_and_zeros.next().unwrap_or(0)))
+        Memory::from_row(bytes, OBJECT_PLACES)
+    }
+
+    /// The same from a row in which the columns for objects have so many places; the places behind them are 0.
+    pub fn from_row(bytes: &[u8], places: usize) -> Option<Memory> {
+        if bytes.len() > row_bytes(places) {
+            return None;
+        }
+        let mut row = bytes.to_vec();
+        row.resize(row_bytes(places), 0);
+        let (counts, rest) = row.split_at(COUNTS);
+        let (columns, rest) = rest.split_at(OBJECT_COLUMNS * places);
+        let behind = [0; OBJECT_PLACES];
+        let columns: Vec<u8> = columns.chunks(places).flat_map(|column| [column, &behind[places..]].concat()).collect();
+        let mut all = [counts, &columns, rest].concat().into_iter();
+        Some(Memory::filled(|| all.next().unwrap_or(0)))
     }
 
     pub fn to_bytes(&self) -> Vec<u8> {
+        self.to_row(OBJECT_PLACES)
+    }
+
+    /// The row in which the columns for objects are cut to so many places.
+    pub fn to_row(&self, places: usize) -> Vec<u8> {
         let counts = [self.drivers, self.devices, self.objects, self.values];
-        let of_objects = [self.kind, self.class, self.owner].concat();
+        let of_objects = [&self.kind[..places], &self.class[..places], &self.owner[..places]].concat();
         [&counts[..], &of_objects, &self.hardcoded, &self.count, &self.entries].concat()
     }
 

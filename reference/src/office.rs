@@ -1,8 +1,9 @@
 //! The programs: what the office program prints for a configuration file and a session, and what the program that
 //! rewrites a configuration file (request N1) prints and writes.
 
+use crate::config::load;
 use crate::gate::{fresh, operate, rewritten};
-use crate::limits::{ANSWER_BYTES, LINE_LIMIT, SESSION_LIMIT, STATE_BYTES};
+use crate::limits::{ANSWER_BYTES, LINE_LIMIT, SESSION_LIMIT};
 use crate::varint::Reader;
 use crate::writer::Written;
 
@@ -11,7 +12,8 @@ pub fn report(line: &[u8], session: &[u8]) -> Vec<u8> {
     if line.len() > LINE_LIMIT || session.len() > SESSION_LIMIT {
         return b"long\n".to_vec();
     }
-    let mut state = vec![0; STATE_BYTES];
+    // The length that the configuration needs; a refused one needs none, and is refused by its own number.
+    let mut state = vec![0; load(line).map_or(0, |config| config.state_bytes())];
     match fresh(line, &mut state) {
         0 => rows(line, session, &mut state).into_bytes(),
         number => format!("line {number}\n").into_bytes(),

@@ -2,9 +2,7 @@
 //! devices and objects, contents of objects; to and from the bytes of the state area; fresh; well formed (question 9).
 
 use crate::config::{Config, Kind, Owner};
-use crate::limits::{
-    CONTENT_BYTES, MAX_DEVICES, MAX_DRIVERS, MAX_OBJECTS, MAX_PARTITION, RECORD_BYTES, STATE_BYTES, STATUS_BYTES,
-};
+use crate::limits::{CONTENT_BYTES, MAX_DEVICES, MAX_DRIVERS, MAX_PARTITION, RECORD_BYTES, STATUS_BYTES};
 
 pub type Contents = [u8; CONTENT_BYTES];
 
@@ -50,7 +48,7 @@ impl State {
             status: vec![NEVER_USED; STATUS_BYTES],
             drivers: vec![NONE; MAX_DRIVERS],
             devices: vec![NONE; MAX_DEVICES],
-            objects: vec![EMPTY; MAX_OBJECTS],
+            objects: vec![EMPTY; config.room()],
         };
         for device in 1..=config.devices() {
             let descriptor = config.hardcoded_object(device);
@@ -59,9 +57,9 @@ impl State {
         state
     }
 
-    /// What an area shows; nothing if it has not the length of a state area (question 7).
-    pub fn from_bytes(area: &[u8]) -> Option<State> {
-        if area.len() != STATE_BYTES {
+    /// What an area shows; nothing if it has not the length that the configuration needs (question 7).
+    pub fn from_bytes(config: &Config, area: &[u8]) -> Option<State> {
+        if area.len() != config.state_bytes() {
             return None;
         }
         let (status, rest) = area.split_at(STATUS_BYTES);
@@ -125,7 +123,7 @@ impl State {
     }
 }
 
-/// Question 9.
+/// Question 9. Every record behind the last object's is an absent object's, as many as the area has.
 pub fn well_formed(config: &Config, state: &State) -> bool {
     statuses_fit(state)
         && actors_fit(state, &state.drivers, config.drivers)

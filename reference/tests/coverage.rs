@@ -9,6 +9,7 @@ use reference::coverage::{Coverage, LONGEST};
 use reference::generate::Folder;
 use reference::generate::drills::{self, POINTS, Point};
 use reference::generate::stored::{cases, stored, with_drills};
+use reference::limits::MAX_OBJECTS;
 use reference::operation;
 use reference::tokens::row;
 use reference::{closure, effect, faults, gate, load, state::State, varint};
@@ -44,6 +45,16 @@ fn without_drills_something_is_missing() {
         "to what leaves",
         "refusals by 19 of code 3",
         "refusals by 20 of code 12",
+        "cases with 97 objects",
+        "cases with 128 objects",
+        "cases with 191 objects",
+        "cases with 192 objects",
+        "refusals in wide configurations",
+        "name an object above 127",
+        "above 127 that cross",
+        "above 127 to what leaves",
+        "longest that crosses",
+        "longest to what leaves",
         "'closure of 16 rounds'",
         "'whole descriptor states for pairs'",
         "'19 not put for code 3'",
@@ -51,6 +62,13 @@ fn without_drills_something_is_missing() {
         "'18 looks one step far'",
         "'18 ignores the stored value of writes'",
         "'copies of code 3 done one by one'",
+        "'entries' objects modulo 128'",
+        "'entries' objects at most 96'",
+        "'records' objects modulo 128'",
+        "'97 objects in the small room'",
+        "'closure: nothing above 127 is read'",
+        "'15 asks the first 96 objects'",
+        "'the first 96 objects go with their owner'",
     ] {
         assert!(missing.iter().any(|row| row.contains(part)), "{part}");
     }
@@ -68,14 +86,18 @@ fn cut_cases_are_not_read() {
 /// A fault changes only what its row says it touches, so that nothing else has to be judged by it.
 #[test]
 fn faults_touch_what_they_say() {
-    for case in stored_cases(true).iter().step_by(11) {
+    for (place, case) in stored_cases(true).iter().enumerate() {
         let Ok(config) = load(&case.line) else { continue };
+        if place % 11 != 0 && !config.is_wide() {
+            continue;
+        }
         let mut state = State::fresh(&config);
         for record in records(&case.session) {
             let right = gate::judge(closure, &config, &state, record);
             let number = right.as_ref().err().copied().unwrap_or(0);
-            for fault in faults::all().iter().filter(|fault| !fault.can_touch(record, number)) {
-                assert_eq!(faults::judge(fault, &config, &state, record), right, "{}", fault.name);
+            for fault in faults::all().iter().filter(|fault| !fault.can_touch(&config, record, number)) {
+                let same = faults::judge(fault, &config, &state, record) == right;
+                assert!(same, "{} in case {place}: {record:?}", fault.name);
             }
             state = right.map_or(state, |(next, _)| next);
         }
@@ -120,6 +142,13 @@ fn drills_are_sound() {
         assert_eq!(made.len(), count);
         for drill in &made {
             assert_eq!(load(&drill.world.line).as_ref(), Ok(&drill.world.config), "{point:?}");
+        }
+        if point == Point::WideChain {
+            let coverage = Coverage::of(&made.iter().map(|drill| drill.folder()).collect::<Vec<_>>());
+            assert_eq!((coverage.wide.crossing[0], coverage.wide.leaving[0]), (40, 40));
+            let last = made[0].world.config.objects.len();
+            let named = made[0].world.config.values.iter().flatten().any(|entry| entry.object == last);
+            assert!(last == MAX_OBJECTS && named);
         }
         if point == Point::CrossingByWrite {
             let coverage = Coverage::of(&made.iter().map(|drill| drill.folder()).collect::<Vec<_>>());

@@ -76,7 +76,8 @@ fn areas_are_broken_or_well_formed_as_asked() {
         let state = areas::scrambled(&mut rng, &world.config);
         assert!(well_formed(&world.config, &state));
         let area = areas::broken(&mut rng, &world.config, &state);
-        bad += usize::from(!well_formed(&world.config, &State::from_bytes(&area).expect("the length is right")));
+        let shown = State::from_bytes(&world.config, &area).expect("the length is right");
+        bad += usize::from(!well_formed(&world.config, &shown));
     }
     assert!(bad > 350, "{bad}");
 }
@@ -110,7 +111,8 @@ fn survey(size: Size) -> ([usize; 21], [BTreeSet<usize>; 2]) {
 
 #[test]
 fn sessions_go_deep_and_show_every_number() {
-    for (size, depth) in [(Size::Small, 8), (Size::Medium, 20), (Size::Deep, 60), (Size::Full, 30)] {
+    let sizes = [(Size::Small, 8), (Size::Medium, 20), (Size::Deep, 60), (Size::Full, 30), (Size::Wide, 60)];
+    for (size, depth) in sizes {
         let (seen, depths) = survey(size);
         println!("{size:?} {seen:?}\n  accepted at {:?}\n  refused at {:?}", depths[0], depths[1]);
         assert!(seen[0] * 2 > seen.iter().sum(), "{size:?} {seen:?}");

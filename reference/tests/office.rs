@@ -6,7 +6,7 @@ use common::file_l;
 use reference::generate::drills::POINTS;
 use reference::generate::stored::{MOST_INPUT, long, with_drills};
 use reference::generate::{Rng, Size, sessions::folder};
-use reference::report;
+use reference::{load, report};
 
 fn text(line: &[u8], session: &[u8]) -> String {
     String::from_utf8(report(line, session)).expect("plain text")
@@ -71,6 +71,23 @@ fn stored_cases_hold_together() {
     }
     assert_eq!(expected, cases.expected);
     assert!(long().iter().all(|folder| report(&folder.line, &folder.session) == b"long\n"));
+}
+
+/// A checksum of bytes (FNV-1a of 64 bits).
+fn checksum(bytes: &[u8]) -> u64 {
+    bytes.iter().fold(0xCBF2_9CE4_8422_2325, |sum, byte| (sum ^ u64::from(*byte)).wrapping_mul(0x100_0000_01B3))
+}
+
+/// The cases that were stored before there were wide configurations come first, byte for byte, with their answers.
+#[test]
+fn the_cases_of_before_come_first() {
+    let cases = with_drills(1, 300, 120_000);
+    assert_eq!(checksum(&cases.input[..128_152]), 0xAFFD_0291_3340_08DF);
+    assert_eq!(checksum(&cases.expected[..45_012]), 0x333B_C369_F988_7F58);
+    let behind = reference::generate::stored::cases(&cases.input[128_152..]).expect("whole cases");
+    let objects: Vec<usize> =
+        behind.iter().map(|case| load(&case.line).expect("the file is accepted").objects.len()).collect();
+    assert_eq!(objects, [192, 128, 191, 97]);
 }
 
 #[test]

@@ -36,15 +36,15 @@ fn question_2_at_every_number() {
 #[test]
 fn question_3_at_every_field() {
     // The first number out of range of each field of L, in the order of the file.
-    let counts = [2, 17, 17, 97, 48];
+    let counts = [2, 17, 17, 193, 48];
     let objects = [5, 3, 3].repeat(6);
-    let mut beyond: Vec<u8> = [&counts[..], &objects, &[6, 6]].concat();
+    let mut beyond: Vec<usize> = [&counts[..], &objects, &[6, 6]].concat();
     for stored in [1, 1, 1, 6, 6] {
         beyond.extend([7, 7, 4, stored]);
     }
     beyond[5 + 4 * 3 + 2] = 1;
     for (place, number) in beyond.iter().enumerate() {
-        assert_eq!(load_check(&l_with(place, &[*number])), 3, "{place}");
+        assert_eq!(load_check(&l_with(place, &row(&[*number]))), 3, "{place}");
     }
     for (place, number) in [(0, 0), (5, 0), (7, 0), (26, 0), (27, 0)] {
         assert_eq!(load_check(&l_with(place, &[number])), 3, "{place}");

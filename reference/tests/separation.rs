@@ -12,7 +12,6 @@ use reference::gate::operate_with;
 use reference::generate::records::record;
 use reference::generate::worlds::world;
 use reference::generate::{Rng, Size, Want, World};
-use reference::limits::STATE_BYTES;
 use reference::state::{NONE, State};
 use reference::trace;
 use std::ops::Range;
@@ -42,7 +41,7 @@ fn trial(search: Search, seeds: Range<u64>) -> Result<Trial, String> {
 
 impl Trial {
     fn list(&mut self, search: Search, rng: &mut Rng, world: &World) -> Result<(), String> {
-        let mut area = rng.bytes(STATE_BYTES);
+        let mut area = rng.bytes(world.config.state_bytes());
         assert_eq!(fresh(&world.line, &mut area), 0);
         let mut book = Book::new(&world.config);
         for _ in 0..rng.between(0, 60) + world.config.objects.len() {
@@ -65,7 +64,7 @@ impl Trial {
 
     /// One call with an answer area of any length and content; the book is fed.
     fn call(&mut self, search: Search, rng: &mut Rng, world: &World, area: &mut [u8], book: &mut Book) -> u32 {
-        let state = State::from_bytes(area).expect("the length is right");
+        let state = State::from_bytes(&world.config, area).expect("the length is right");
         let want = Want::any(rng);
         let record = record(rng, world, &state, want);
         let length = if rng.percent(4) { rng.below(128) } else { rng.between(128, 160) };
@@ -84,7 +83,7 @@ impl Trial {
 
     /// A few traces from the book.
     fn trace(&mut self, rng: &mut Rng, config: &Config, area: &[u8]) -> Result<(), String> {
-        let state = State::from_bytes(area).expect("the length is right");
+        let state = State::from_bytes(config, area).expect("the length is right");
         for _ in 0..2 {
             self.traces += 1;
             let length = rng.between(1, 60);

@@ -12,7 +12,7 @@ use reference::{Memory, Written, coded, load, load_check, rewrite, rewriting, wr
 use std::collections::BTreeMap;
 
 /// The length of the longest file that can be accepted.
-const LONGEST: usize = 1_202;
+const LONGEST: usize = 1_773;
 /// An area that every file fits into.
 const ROOM: usize = LONGEST + 100;
 
@@ -137,7 +137,7 @@ fn each_value_that_a_field_of_l_cannot_have() {
     let changes: [Change; 14] = [
         ("drivers", |memory, byte| memory.drivers = byte, &[0, 17, 128, 255]),
         ("devices", |memory, byte| memory.devices = byte, &[0, 1, 17, 128, 255]),
-        ("objects", |memory, byte| memory.objects = byte, &[0, 1, 3, 97, 128, 255]),
+        ("objects", |memory, byte| memory.objects = byte, &[0, 1, 3, 97, 192, 193, 255]),
         ("values", |memory, byte| memory.values = byte, &[0, 1, 48, 128, 255]),
         ("kind", |memory, byte| memory.kind[6] = byte, &[0, 5, 255]),
         ("class", |memory, byte| memory.class[1] = byte, &[0, 3, 7, 255]),
@@ -146,7 +146,7 @@ fn each_value_that_a_field_of_l_cannot_have() {
         ("owner of a device's object", |memory, byte| memory.owner[2] = byte, &[0, 3, 16, 255]),
         ("hardcoded", |memory, byte| memory.hardcoded[2] = byte, &[6, 47, 255]),
         ("count", |memory, byte| memory.count[5] = byte, &[2, 7, 200, 255]),
-        ("object of an entry", |memory, byte| memory.entries[93] = byte, &[0, 7, 97, 255]),
+        ("object of an entry", |memory, byte| memory.entries[93] = byte, &[0, 7, 97, 192, 193, 255]),
         ("mode", |memory, byte| memory.entries[94] = byte, &[0, 4, 255]),
         ("stored value", |memory, byte| memory.entries[95] = byte, &[6, 47, 255]),
     ];
@@ -263,15 +263,7 @@ fn the_smallest_and_the_largest() {
     let zeros = Memory::filled(|| 0);
     assert_eq!(file(&zeros), row(&[1, 0, 0, 0, 0]));
     assert_eq!(write(&Memory::filled(|| 255), &mut [0; ROOM]), Written::Refused(3));
-    let mut largest = Memory::of(&world(&mut Rng::new(11), Size::Full).config);
-    for value in 1..=MAX_VALUES {
-        let entries = usize::from(largest.count[value]);
-        let last = largest.entries_of(value).last().unwrap_or([1, 1, 0]);
-        (entries + 1..=MAX_ENTRIES).for_each(|entry| largest.set_entry(value, entry, last));
-        largest.count[value] = MAX_ENTRIES as u8;
-    }
-    // No hardcoded value: any entries will do.
-    (1..=MAX_DEVICES).for_each(|device| largest.hardcoded[device] = 0);
+    let mut largest = largest();
     assert_eq!(file(&largest).len(), LONGEST);
     assert_eq!(answer(&mut Rng::new(11), &largest, LONGEST - 1), Written::Short(LONGEST));
     // Behind a value's six entries stand those of the next values: nothing but the count is wrong.
@@ -281,12 +273,31 @@ fn the_smallest_and_the_largest() {
     }
 }
 
+/// Every count at its limit, six entries in each value, and each of them for an object whose number has two bytes. No
+/// device has a hardcoded value: any entries will do.
+fn largest() -> Memory {
+    let mut largest = Memory::filled(|| 0);
+    (largest.drivers, largest.devices) = (MAX_DRIVERS as u8, MAX_DEVICES as u8);
+    (largest.objects, largest.values) = (MAX_OBJECTS as u8, MAX_VALUES as u8);
+    largest.kind[1..].fill(3);
+    for device in 1..=MAX_DEVICES {
+        (largest.kind[device], largest.class[device], largest.owner[device]) = (4, 2, device as u8);
+    }
+    for value in 1..=MAX_VALUES {
+        largest.count[value] = MAX_ENTRIES as u8;
+        for entry in 1..=MAX_ENTRIES {
+            largest.set_entry(value, entry, [(MAX_OBJECTS - value - entry) as u8, 1, 0]);
+        }
+    }
+    largest
+}
+
 #[test]
 fn bytes_make_a_configuration_in_memory_and_back() {
     let mut rng = Rng::new(12);
     let memory = Memory::filled(|| rng.word() as u8);
     let bytes = memory.to_bytes();
-    assert_eq!(bytes.len(), 1_227);
+    assert_eq!(bytes.len(), 1_515);
     assert_eq!(Memory::from_bytes(&bytes), Some(memory));
     assert_eq!(Memory::from_bytes(&[bytes, vec![0]].concat()), None);
     let l = in_memory(&file_l());

@@ -16,6 +16,7 @@ unsafe extern "C" {
         answer_len: usize,
     ) -> u32;
     fn gate_rewrite(line: *const u8, line_len: usize, out: *mut u8, out_len: usize) -> u64;
+    fn gate_state_bytes(line: *const u8, line_len: usize) -> u64;
 }
 
 /// What a call answered and left.
@@ -76,6 +77,12 @@ fn invoke(call: &Call, state: &mut [u8], answer: &mut [u8]) -> u32 {
             ),
         }
     }
+}
+
+/// The length of the state area that a file needs, or the question that refuses it.
+pub fn state_bytes(line: &[u8]) -> u64 {
+    // SAFETY: the pointer comes from a slice and is valid for its length, also at length 0.
+    unsafe { gate_state_bytes(line.as_ptr(), line.len()) }
 }
 
 /// What rewriting a file answered and left.

@@ -1,14 +1,18 @@
 //! Compares the proved library with the second implementation over generated calls: the answer, all state bytes and all
-//! answer bytes after every call. The file of every session is rewritten besides (`rewrites`). Ends with 1 at the first
-//! difference, or if some number or kind of answer never occurs.
+//! answer bytes after every call. The file of every session is rewritten besides (`rewrites`), and every file is asked
+//! for the length of its state area (`lengths`). Ends with 1 at the first difference, or if some number or kind of
+//! answer never occurs.
 
+mod lengths;
 mod library;
 mod rewrites;
 
+use lengths::Lengths;
 use library::Result as Outcome;
 use reference::generate::{Call, Calls, Function};
 use reference::{fresh, load_check, operate};
 use rewrites::Rewrites;
+use std::fmt;
 use std::process::ExitCode;
 
 const USAGE: &str = "usage: matching [--calls N] [--seed S]";
@@ -42,38 +46,85 @@ fn options() -> Option<(u64, u64)> {
 }
 
 fn compare(calls: u64, seed: u64) -> ExitCode {
-    let mut stream = Calls::new(seed);
-    let mut rewrites = Rewrites::new(seed);
-    let mut seen = [0_u64; NUMBERS];
-    for place in 1..=calls {
-        let sessions = stream.sessions;
-        let call = stream.next_call();
-        if stream.sessions != sessions && !rewrites.agree(stream.world()) {
-            return ExitCode::FAILURE;
-        }
-        let here = by_reference(&call);
-        let there = library::run(&call);
-        if here != there {
-            print_difference(seed, place, &call, &here, &there);
-            return ExitCode::FAILURE;
-        }
-        if let Some(count) = seen.get_mut(here.number as usize) {
-            *count += 1;
-        }
-        // Both sides left the same bytes, so one copy carries both on.
-        stream.carry(&call, &here.state);
+    let mut comparison = Comparison {
+        seed,
+        stream: Calls::new(seed),
+        rewrites: Rewrites::new(seed),
+        lengths: Lengths::new(),
+        seen: [0; NUMBERS],
+    };
+    let all_agree = comparison.lengths.agree_on_all(seed) && (1..=calls).all(|place| comparison.agrees_on_next(place));
+    if !all_agree {
+        return ExitCode::FAILURE;
     }
-    println!("seed {seed}: {} sessions, {calls} calls", stream.sessions);
-    seen.iter().enumerate().for_each(|(number, count)| println!("{number:>3} {count}"));
-    rewrites.print();
-    println!("0 differences");
-    let numbers = (0..NUMBERS).filter(|number| seen[*number] == 0).map(|number| number.to_string());
-    let absent: Vec<String> = numbers.chain(rewrites.absent()).collect();
+    comparison.print(calls);
+    let absent = comparison.absent();
     if absent.is_empty() {
         return ExitCode::SUCCESS;
     }
     println!("never occurred: {}", absent.join(", "));
     ExitCode::FAILURE
+}
+
+/// Both sides as far as they were compared.
+struct Comparison {
+    seed: u64,
+    stream: Calls,
+    rewrites: Rewrites,
+    lengths: Lengths,
+    /// How often each number was answered.
+    seen: [u64; NUMBERS],
+}
+
+impl Comparison {
+    /// Whether both sides do the same at the next call, and with the files of the session that it may begin.
+    fn agrees_on_next(&mut self, place: u64) -> bool {
+        let sessions = self.stream.sessions;
+        let call = self.stream.next_call();
+        if self.stream.sessions != sessions && !self.agrees_on_files() {
+            return false;
+        }
+        let Some(here) = agreed(format_args!("seed {}, call {place}", self.seed), &call) else {
+            return false;
+        };
+        self.lengths.count(&call, here.number);
+        if let Some(count) = self.seen.get_mut(here.number as usize) {
+            *count += 1;
+        }
+        // Both sides left the same bytes, so one copy carries both on.
+        self.stream.carry(&call, &here.state);
+        self.lengths.agree(&call.line)
+    }
+
+    fn agrees_on_files(&mut self) -> bool {
+        let world = self.stream.world();
+        self.lengths.count_session(world.config.is_wide());
+        self.rewrites.agree(world, &mut self.lengths)
+    }
+
+    fn print(&self, calls: u64) {
+        println!("seed {}: {} sessions, {calls} calls", self.seed, self.stream.sessions);
+        self.seen.iter().enumerate().for_each(|(number, count)| println!("{number:>3} {count}"));
+        self.rewrites.print();
+        self.lengths.print();
+        println!("0 differences");
+    }
+
+    /// What never occurred.
+    fn absent(&self) -> Vec<String> {
+        let numbers = (0..NUMBERS).filter(|number| self.seen[*number] == 0).map(|number| number.to_string());
+        numbers.chain(self.rewrites.absent()).chain(self.lengths.absent()).collect()
+    }
+}
+
+/// The outcome of a call if it is the same on both sides; else the difference is printed.
+pub(crate) fn agreed(name: fmt::Arguments, call: &Call) -> Option<Outcome> {
+    let (here, there) = (by_reference(call), library::run(call));
+    if here == there {
+        return Some(here);
+    }
+    print_difference(name, call, &here, &there);
+    None
 }
 
 /// The second implementation's outcome.
@@ -92,8 +143,8 @@ pub(crate) fn hex(bytes: &[u8]) -> String {
 }
 
 /// Everything that is needed to make the call again.
-fn print_difference(seed: u64, place: u64, call: &Call, here: &Outcome, there: &Outcome) {
-    println!("difference: seed {seed}, call {place}, {:?}", call.function);
+fn print_difference(name: fmt::Arguments, call: &Call, here: &Outcome, there: &Outcome) {
+    println!("difference: {name}, {:?}", call.function);
     println!("line          {}", hex(&call.line));
     println!("state before  {}", hex(&call.state));
     println!("record        {}", hex(&call.record));

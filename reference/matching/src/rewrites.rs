@@ -1,6 +1,7 @@
 //! Files rewritten by both: the answer with its kind, the whole area, and the bytes around it.
 
 use crate::hex;
+use crate::lengths::Lengths;
 use crate::library::{self, Rewritten};
 use reference::generate::rewrites::rewrites;
 use reference::generate::{Rewrite, Rng, World};
@@ -24,9 +25,10 @@ impl Rewrites {
         Rewrites { seed, rng: Rng::part(seed, 1), calls: 0, seen: [0; ANSWERS] }
     }
 
-    /// Whether both do the same with the world's file and with files made from it; the first difference is printed.
-    pub fn agree(&mut self, world: &World) -> bool {
-        rewrites(&mut self.rng, world).iter().all(|call| self.agree_on(call))
+    /// Whether both do the same with the world's file and with files made from it, and tell the same lengths of state
+    /// areas for them; the first difference is printed.
+    pub fn agree(&mut self, world: &World, lengths: &mut Lengths) -> bool {
+        rewrites(&mut self.rng, world).iter().all(|call| self.agree_on(call) && lengths.agree(&call.line))
     }
 
     fn agree_on(&mut self, call: &Rewrite) -> bool {

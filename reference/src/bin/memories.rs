@@ -8,11 +8,13 @@ use reference::generate::memories::cases;
 use reference::generate::stored::MOST_INPUT;
 use reference::generate::worlds::world;
 use reference::generate::{Rng, Size};
+use reference::memory::{OBJECT_PLACES, SMALL_OBJECT_PLACES};
 use std::io::Write;
 use std::process::ExitCode;
 
-/// What a case of the writer begins with.
-const WRITE: u8 = 7;
+/// What a case of the writer begins with: the columns for objects have the places of small configurations, or all.
+const WRITE_SMALL: u8 = 7;
+const WRITE: u8 = 11;
 
 /// How much longer than the file the longest area is.
 const SPARE: usize = 40;
@@ -40,7 +42,8 @@ fn input(seed: u64) -> Vec<u8> {
         let size = Size::any(&mut rng);
         let world = world(&mut rng, size);
         for memory in cases(&mut rng, &Memory::of(&world.config)) {
-            let case = case(&mut rng, &memory, world.line.len());
+            let small = !world.config.is_wide() && rng.percent(40);
+            let case = case(&mut rng, &memory, world.line.len(), small);
             if out.len() + case.len() > MOST_INPUT {
                 return out;
             }
@@ -51,12 +54,13 @@ fn input(seed: u64) -> Vec<u8> {
 }
 
 /// A configuration into an area; zeros at its end are left out, as the programs take them for given.
-fn case(rng: &mut Rng, memory: &Memory, length: usize) -> Vec<u8> {
+fn case(rng: &mut Rng, memory: &Memory, length: usize, small: bool) -> Vec<u8> {
+    let (call, places) = if small { (WRITE_SMALL, SMALL_OBJECT_PLACES) } else { (WRITE, OBJECT_PLACES) };
     let rooms = [0, length - 1, length, length + 1, length + SPARE];
     let mut bytes = two(rooms[rng.below(rooms.len())]).to_vec();
-    bytes.extend(memory.to_bytes());
+    bytes.extend(memory.to_row(places));
     bytes.truncate(bytes.iter().rposition(|byte| *byte != 0).map_or(2, |last| last.max(1) + 1));
-    [&[WRITE][..], &two(bytes.len()), &bytes].concat()
+    [&[call][..], &two(bytes.len()), &bytes].concat()
 }
 
 /// A number in two bytes, the lower one first.

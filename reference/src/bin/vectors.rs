@@ -4,22 +4,28 @@
 //! A case is a byte for what is called, its length in two bytes, lowest first, and its bytes. A row is the case's place
 //! from 1, the answer, and a checksum of what the call left (0 where it leaves nothing).
 
-use reference::limits::{LINE_LIMIT, MAX_COUNT, STATE_BYTES};
+use reference::limits::{ANSWER_BYTES, LINE_LIMIT, MAX_COUNT, STATE_BYTES};
+use reference::memory::{OBJECT_PLACES, SMALL_OBJECT_PLACES};
 use reference::operation::{self, Operation, Put};
 use reference::state::{CLEARED, Contents, State, well_formed};
-use reference::{Memory, coded, fresh, load, load_check, write};
+use reference::{Memory, coded, fresh, load, load_check, operate, state_bytes, write};
 use std::io::{Read, Write};
 use std::process::ExitCode;
 
 /// What a case calls: the load check; making a fresh state in an area of the right length, of a byte less and of a byte
-/// more; question 9; question 10; the writer of files.
+/// more; question 9; question 10; the writer of files, for small configurations; making a fresh state in an area of a
+/// given length; an operation in one; the length of a state area; the writer for any configuration.
 const LOAD: u8 = 1;
 const FRESH: u8 = 2;
 const FORMED: u8 = 3;
 const OPERATION: u8 = 4;
 const FRESH_SHORT: u8 = 5;
 const FRESH_LONG: u8 = 6;
-const WRITE: u8 = 7;
+const WRITE_SMALL: u8 = 7;
+const FRESH_GIVEN: u8 = 8;
+const OPERATE_GIVEN: u8 = 9;
+const STATE_LENGTH: u8 = 10;
+const WRITE: u8 = 11;
 
 const HEAD_BYTES: usize = 3;
 const PATCH_BYTES: usize = 3;
@@ -28,8 +34,14 @@ const LENGTH_BYTES: usize = 2;
 /// What an area holds before a fresh state is made in it, or a file written into it.
 const OLD_BYTE: u8 = 0xAA;
 
-/// The longest area that a file is written into: a longer one is cut to it.
+/// The longest area. One that a file is written into is cut to it; a case with a longer state area is none.
 const LONGEST_AREA: usize = LINE_LIMIT;
+
+/// The record of the operation in a given area: creates partition 1.
+const CREATE: [u8; 2] = [5, 1];
+
+/// What a case gets that is none: lengths that its bytes have no room for, a place outside its area, an unknown call.
+const NO_CASE: Row = (255, 0);
 
 /// An answer, and the checksum of what was left.
 type Row = (u64, u64);
@@ -51,7 +63,7 @@ fn run() -> Result<(), String> {
     while !rest.is_empty() {
         place += 1;
         let (call, bytes, behind) = cut(rest).ok_or_else(|| format!("case {place} is cut short"))?;
-        let (answer, left) = judge(call, bytes).ok_or_else(|| format!("case {place} is none"))?;
+        let (answer, left) = judge(call, bytes).unwrap_or(NO_CASE);
         rows += &format!("{place} {answer} {left}\n");
         rest = behind;
     }
@@ -72,14 +84,34 @@ fn two(low: u8, high: u8) -> usize {
 fn judge(call: u8, bytes: &[u8]) -> Option<Row> {
     match call {
         LOAD => Some((u64::from(load_check(bytes)), 0)),
-        FRESH => Some(judge_fresh(bytes, STATE_BYTES)),
-        FRESH_SHORT => Some(judge_fresh(bytes, STATE_BYTES - 1)),
-        FRESH_LONG => Some(judge_fresh(bytes, STATE_BYTES + 1)),
+        FRESH => Some(judge_fresh(bytes, area_length(bytes))),
+        FRESH_SHORT => Some(judge_fresh(bytes, area_length(bytes) - 1)),
+        FRESH_LONG => Some(judge_fresh(bytes, area_length(bytes) + 1)),
+        FRESH_GIVEN => judge_fresh_given(bytes),
         FORMED => judge_formed(bytes),
         OPERATION => Some(judge_record(bytes)),
-        WRITE => judge_write(bytes),
+        OPERATE_GIVEN => judge_operate(bytes),
+        STATE_LENGTH => Some((state_bytes(bytes), 0)),
+        WRITE_SMALL => judge_write(bytes, SMALL_OBJECT_PLACES),
+        WRITE => judge_write(bytes, OBJECT_PLACES),
         _ => None,
     }
+}
+
+/// The length of the state area that a file needs; the shorter one where the file is refused.
+fn area_length(line: &[u8]) -> usize {
+    load(line).map_or(STATE_BYTES, |config| config.state_bytes())
+}
+
+/// A length in two bytes, and what stands behind it.
+fn length(bytes: &[u8]) -> Option<(usize, &[u8])> {
+    let (length, rest) = bytes.split_at_checked(LENGTH_BYTES)?;
+    Some((two(length[0], length[1]), rest))
+}
+
+/// The length of a state area, at most the longest, and what stands behind it.
+fn given_area(bytes: &[u8]) -> Option<(usize, &[u8])> {
+    length(bytes).filter(|(length, _)| *length <= LONGEST_AREA)
 }
 
 fn judge_fresh(line: &[u8], length: usize) -> Row {
@@ -88,27 +120,49 @@ fn judge_fresh(line: &[u8], length: usize) -> Row {
     (answer, checksum(area.into_iter().map(usize::from)))
 }
 
-/// A file after its length in one byte, then the bytes of the area that are not 0: a place in two bytes, and the byte.
-fn judge_formed(bytes: &[u8]) -> Option<Row> {
-    let (length, rest) = bytes.split_first()?;
-    let (line, patches) = rest.split_at_checked(usize::from(*length))?;
-    let mut area = vec![0; STATE_BYTES];
+/// The area's length, then the file.
+fn judge_fresh_given(bytes: &[u8]) -> Option<Row> {
+    given_area(bytes).map(|(length, line)| judge_fresh(line, length))
+}
+
+/// An area of zeros with some bytes set: for each a place in two bytes, and the byte.
+fn patched(length: usize, patches: &[u8]) -> Option<Vec<u8>> {
+    let mut area = vec![0; length];
     for patch in patches.chunks(PATCH_BYTES) {
         let [low, high, byte] = *patch else { return None };
         *area.get_mut(two(low, high))? = byte;
     }
+    Some(area)
+}
+
+/// A file after its length in one byte, then the bytes of the area that are not 0.
+fn judge_formed(bytes: &[u8]) -> Option<Row> {
+    let (length, rest) = bytes.split_first()?;
+    let (line, patches) = rest.split_at_checked(usize::from(*length))?;
+    let area = patched(area_length(line), patches)?;
     let answer = match load(line) {
         Err(number) => u64::from(number),
-        Ok(config) if well_formed(&config, &State::from_bytes(&area)?) => 0,
+        Ok(config) if well_formed(&config, &State::from_bytes(&config, &area)?) => 0,
         Ok(_) => 9,
     };
     Some((answer, 0))
 }
 
-/// The area's length in two bytes, then a configuration in memory; bytes missing at the end are 0.
-fn judge_write(bytes: &[u8]) -> Option<Row> {
+/// A file after its length, the area's length, then the bytes of the area that are not 0.
+fn judge_operate(bytes: &[u8]) -> Option<Row> {
+    let (line_length, rest) = length(bytes)?;
+    let (line, rest) = rest.split_at_checked(line_length)?;
+    let (area_length, patches) = given_area(rest)?;
+    let mut area = patched(area_length, patches)?;
+    let answer = u64::from(operate(line, &mut area, &CREATE, &mut [0; ANSWER_BYTES]));
+    Some((answer, checksum(area.into_iter().map(usize::from))))
+}
+
+/// The area's length in two bytes, then a configuration in memory whose columns for objects have so many places; bytes
+/// missing at the end are 0.
+fn judge_write(bytes: &[u8], places: usize) -> Option<Row> {
     let byte = |place: usize| bytes.get(place).copied().unwrap_or(0);
-    let memory = Memory::from_bytes(bytes.get(LENGTH_BYTES..).unwrap_or_default())?;
+    let memory = Memory::from_row(bytes.get(LENGTH_BYTES..).unwrap_or_default(), places)?;
     let mut area = vec![OLD_BYTE; two(byte(0), byte(1)).min(LONGEST_AREA)];
     let answer = coded(write(&memory, &mut area));
     Some((answer, checksum(area.into_iter().map(usize::from))))

@@ -1,16 +1,27 @@
 //! The least that stored cases must show, what is missing, and the counts as text.
 
 use super::chains::{ORDERS, Order};
+use super::wide::Wide;
 use super::{Coverage, LONGEST, Noticed};
+use crate::faults::Fault;
+use crate::generate::worlds::WIDE_COUNTS;
 use std::fmt;
 
 /// Chains of each length: those that cross, in each order, and those that end at what leaves.
 const CHAINS: usize = 2;
 /// Refusals by a number of a code.
 const REFUSED: [(u8, usize, usize); 5] = [(19, 1, 300), (19, 3, 100), (20, 10, 30), (20, 11, 30), (20, 12, 30)];
-/// Cases that notice each fault, and calls for each right answer that the fault touches.
-const CASES: usize = 3;
+/// Calls that notice a fault, for each right answer that must show it.
 const CALLS: usize = 5;
+/// In wide configurations: cases with each count of objects, refusals, accepted records that name an object with a
+/// number of two bytes, chains through such an object that cross, and that end at what leaves; and the longest of
+/// both.
+const WIDE_CASES: usize = 1;
+const WIDE_REFUSED: usize = 20;
+const WIDE_NAMED: usize = 15;
+const WIDE_CROSSING: usize = 5;
+const WIDE_LEAVING: usize = 3;
+const WIDE_LONGEST: usize = 40;
 
 /// A count: its name, how often, and the least that it must be.
 struct Row {
@@ -54,9 +65,14 @@ impl Coverage {
         REFUSED.into_iter().map(row).collect()
     }
 
+    /// All rows but those of the faults.
+    fn rows(&self) -> Vec<Row> {
+        [self.chain_rows(), self.refusal_rows(), self.wide.rows()].into_iter().flatten().collect()
+    }
+
     /// What is below its least, and what contradicts itself.
     pub fn missing(&self) -> Vec<String> {
-        let rows = [self.chain_rows(), self.refusal_rows()].into_iter().flatten();
+        let rows = self.rows().into_iter();
         let rows = rows.chain(self.noticed.iter().flat_map(Noticed::rows));
         let low = rows.filter(|row| row.count < row.least);
         let mut list: Vec<String> =
@@ -68,11 +84,35 @@ impl Coverage {
     }
 }
 
+fn longest(lengths: &[usize]) -> usize {
+    lengths.iter().copied().max().unwrap_or(0)
+}
+
+impl Wide {
+    fn rows(&self) -> Vec<Row> {
+        let of_count = |objects: usize| self.cases.get(&objects).copied().unwrap_or(0);
+        let row = |name: &str, count: usize, least: usize| Row { name: name.to_string(), count, least };
+        let mut rows: Vec<Row> = WIDE_COUNTS
+            .map(|objects| row(&format!("cases with {objects} objects"), of_count(objects), WIDE_CASES))
+            .into();
+        rows.extend([
+            row("refusals in wide configurations", self.refused, WIDE_REFUSED),
+            row("accepted records that name an object above 127", self.named, WIDE_NAMED),
+            row("chains through objects above 127 that cross", self.crossing.len(), WIDE_CROSSING),
+            row("chains through objects above 127 to what leaves", self.leaving.len(), WIDE_LEAVING),
+            row("links of the longest that crosses", longest(&self.crossing), WIDE_LONGEST),
+            row("links of the longest to what leaves", longest(&self.leaving), WIDE_LONGEST),
+        ]);
+        rows
+    }
+}
+
 impl Noticed {
     fn rows(&self) -> Vec<Row> {
         let name = self.fault.name;
-        let mut rows = vec![Row { name: format!("cases that notice '{name}'"), count: self.cases, least: CASES }];
-        for number in self.fault.touches {
+        let name_of_cases = format!("cases that notice '{name}'");
+        let mut rows = vec![Row { name: name_of_cases, count: self.cases, least: self.fault.cases }];
+        for number in self.fault.asked() {
             let name = format!("calls with answer {number} that notice '{name}'");
             rows.push(Row { name, count: self.calls.get(number).copied().unwrap_or(0), least: CALLS });
         }
@@ -83,18 +123,19 @@ impl Noticed {
 impl fmt::Display for Coverage {
     fn fmt(&self, out: &mut fmt::Formatter<'_>) -> fmt::Result {
         writeln!(out, "{} cases, {} calls", self.cases, self.calls)?;
-        for row in self.chain_rows().into_iter().chain(self.refusal_rows()) {
+        for row in self.rows() {
             writeln!(out, "{:>6}  {} (at least {})", row.count, row.name, row.least)?;
         }
         writeln!(out, "{:>6}  calls that contradict the shortest chain (none allowed)", self.contradictions)?;
         writeln!(
             out,
-            "cases that notice each fault (at least {CASES}), calls by right answer (at least {CALLS} each)"
+            "cases that notice each fault (and the least), calls by right answer (at least {CALLS} of those asked for)"
         )?;
         for noticed in &self.noticed {
             let calls: Vec<String> = noticed.calls.iter().map(|(number, count)| format!("{number}: {count}")).collect();
             let calls = format!("{}; another answer to {}", calls.join(", "), noticed.answers);
-            writeln!(out, "{:>6}  {:<42} {calls}", noticed.cases, noticed.fault.name)?;
+            let Fault { name, cases, .. } = noticed.fault;
+            writeln!(out, "{:>6} ({cases})  {name:<42} {calls}", noticed.cases)?;
         }
         Ok(())
     }

@@ -3,6 +3,7 @@
 
 pub mod chains;
 mod least;
+pub mod wide;
 
 use crate::closure::{closure, crosses};
 use crate::config::{Config, load};
@@ -17,6 +18,7 @@ use crate::state::State;
 use crate::varint::Reader;
 use chains::{Chain, Order, shortest};
 use std::collections::BTreeMap;
+use wide::Wide;
 
 /// The longest chain that a configuration has room for: one value is a hardcoded descriptor's, and each link of a
 /// shortest chain reads a value that was not read before.
@@ -45,6 +47,8 @@ pub struct Coverage {
     pub leaving: BTreeMap<usize, usize>,
     /// Refusals by 19 of codes 1 and 3, and by 20 of codes 10, 11 and 12.
     pub refused: BTreeMap<(u8, usize), usize>,
+    /// What is shown of wide configurations.
+    pub wide: Wide,
     /// Calls that the closure judges in one way and the search for the shortest chain in the other.
     pub contradictions: usize,
     pub noticed: Vec<Noticed>,
@@ -68,6 +72,7 @@ impl Coverage {
             crossing: BTreeMap::new(),
             leaving: BTreeMap::new(),
             refused: BTreeMap::new(),
+            wide: Wide::default(),
             contradictions: 0,
             noticed: noticed.collect(),
         };
@@ -81,6 +86,7 @@ impl Coverage {
 
     fn count(&mut self, config: &Config, calls: &[Call]) {
         self.calls += calls.len();
+        self.wide.count(config, calls.iter().map(|call| (call.record, call.number)));
         for call in calls {
             self.count_chain(config, call);
         }
@@ -102,6 +108,9 @@ impl Coverage {
         self.contradictions += usize::from(chain.is_some() != (call.number != 0));
         if call.number != 0 {
             *self.refused.entry((call.number, operation.code())).or_default() += 1;
+        }
+        if let Some(chain) = &chain {
+            self.wide.count_chain(chain, call.number);
         }
         match (chain, call.number) {
             (Some(chain), 19) => *self.crossing.entry((chain.length, chain.order())).or_default() += 1,
@@ -144,7 +153,7 @@ impl Noticed {
         let mut first_answer = None;
         let mut first_state = None;
         for (place, call) in calls.iter().enumerate() {
-            if !self.fault.can_touch(call.record, call.number) {
+            if !self.fault.can_touch(config, call.record, call.number) {
                 continue;
             }
             let (number, after) = outcome(&self.fault, config, &call.before, call.record);

@@ -11,7 +11,7 @@ use crate::trace;
 use std::collections::BTreeSet;
 
 /// The question as the papers have it.
-fn plain(number: u8, case: &Case) -> bool {
+pub fn plain(number: u8, case: &Case) -> bool {
     QUESTIONS.iter().all(|(known, question)| *known != number || question(case))
 }
 

@@ -3,17 +3,25 @@
 
 mod answers;
 mod searches;
+mod wide;
 
 use crate::closure::{Search, closure, limited};
 use crate::config::Config;
 use crate::effect;
 use crate::gate::Judgement;
+use crate::limits::{MAX_ONE_BYTE, SMALL_ROOM};
 use crate::operation::{self, Operation};
 use crate::questions::{Case, QUESTIONS, Question};
 use crate::state::State;
 
 /// What makes the state that follows.
 type Apply = fn(&Config, &State, &Operation) -> State;
+
+/// What a faulty judge takes a file for; the number of a question if it refuses the file. What it takes a record for,
+/// and a state.
+type Taken = fn(&Config) -> Result<Config, u8>;
+type Named = fn(Operation) -> Operation;
+type Kept = fn(&Config, &State) -> State;
 
 /// One fault: what stands in the place of the papers' rule.
 #[derive(Clone, Copy, Debug)]
@@ -24,13 +32,35 @@ pub struct Fault {
     /// refused and never refuses what should pass.
     pub codes: &'static [usize],
     pub touches: &'static [u8],
+    /// The right answers of which calls must show it; where none is given, all that it touches.
+    asked: &'static [u8],
+    /// The least cases that must notice it.
+    pub cases: usize,
+    /// How many objects a configuration has that it can touch, at least.
+    objects: usize,
     search: Search,
     instead: Option<(u8, Question)>,
     apply: Apply,
+    taken: Option<Taken>,
+    named: Named,
+    kept: Option<Kept>,
 }
 
 /// No fault: where each of those below begins.
-const NONE: Fault = Fault { name: "", codes: &[], touches: &[], search: closure, instead: None, apply: effect::apply };
+const NONE: Fault = Fault {
+    name: "",
+    codes: &[],
+    touches: &[],
+    asked: &[],
+    cases: 3,
+    objects: 0,
+    search: closure,
+    instead: None,
+    apply: effect::apply,
+    taken: None,
+    named: |operation| operation,
+    kept: None,
+};
 
 const fn search(name: &'static str, search: Search) -> Fault {
     Fault { name, codes: &[1, 3, 10, 11, 12], touches: &[19, 20], search, ..NONE }
@@ -134,22 +164,66 @@ const OTHERS: [Fault; 7] = [
     },
 ];
 
+/// A fault of wide configurations with at least so many objects: it can touch everything, and accepted calls show it.
+const fn wide(name: &'static str, objects: usize) -> Fault {
+    const CODES: &[usize] = &[1, 2, 3, 4, 5, 6, 7, 8, 9, 10, 11, 12];
+    const ANSWERS: &[u8] = &[0, 10, 11, 12, 13, 14, 15, 16, 17, 18, 19, 20];
+    Fault { name, codes: CODES, touches: ANSWERS, asked: &[0], objects, ..NONE }
+}
+
+/// Faults of wide configurations (request N2). One of them shows only where there is a single object more than in small
+/// configurations.
+const WIDE: [Fault; 7] = [
+    Fault { taken: Some(wide::entries_modulo), ..wide("entries' objects modulo 128", MAX_ONE_BYTE + 1) },
+    Fault { taken: Some(wide::entries_of_small), ..wide("entries' objects at most 96", SMALL_ROOM + 1) },
+    Fault { named: wide::records_modulo, ..wide("records' objects modulo 128", MAX_ONE_BYTE + 1) },
+    Fault { kept: Some(wide::without_last), cases: 1, ..wide("97 objects in the small room", SMALL_ROOM + 1) },
+    Fault { objects: MAX_ONE_BYTE + 1, ..search("closure: nothing above 127 is read", wide::none_above_one_byte) },
+    Fault {
+        name: "15 asks the first 96 objects",
+        codes: &[6],
+        touches: &[15],
+        objects: SMALL_ROOM + 1,
+        instead: Some((15, wide::few_are_in_it)),
+        ..NONE
+    },
+    Fault {
+        name: "the first 96 objects go with their owner",
+        codes: &[7, 8, 10, 11],
+        touches: &[0],
+        objects: SMALL_ROOM + 1,
+        apply: wide::few_are_moved,
+        ..NONE
+    },
+];
+
 /// All faults.
 pub fn all() -> Vec<Fault> {
-    [&SEARCHES[..], &DESCRIBED, &OTHERS].concat()
+    [&SEARCHES[..], &DESCRIBED, &OTHERS, &WIDE].concat()
 }
 
 impl Fault {
     /// Whether a call with this record and this right answer can go another way by this fault.
-    pub fn can_touch(&self, record: &[u8], right: u8) -> bool {
-        let code = operation::read(record).map(|operation| operation.code());
-        self.touches.contains(&right) && code.is_some_and(|code| self.codes.contains(&code))
+    pub fn can_touch(&self, config: &Config, record: &[u8], right: u8) -> bool {
+        let known = |code: usize| self.codes.contains(&code);
+        let code = || operation::read(record).map(|operation| operation.code());
+        config.objects.len() >= self.objects && self.touches.contains(&right) && code().is_some_and(known)
+    }
+
+    /// The right answers of which calls must show it.
+    pub fn asked(&self) -> &'static [u8] {
+        if self.asked.is_empty() { self.touches } else { self.asked }
     }
 }
 
-/// Questions 10 to 20 as the faulty judge puts them, for a well formed state.
+/// Questions 10 to 20 as the faulty judge puts them, for a well formed state; a file that it refuses is refused at
+/// every call.
 pub fn judge(fault: &Fault, config: &Config, state: &State, record: &[u8]) -> Judgement {
-    let operation = operation::read(record).ok_or(10)?;
+    let taken = fault.taken.map(|taken| taken(config)).transpose()?;
+    let config = taken.as_ref().unwrap_or(config);
+    let kept = fault.kept.map(|kept| kept(config, state));
+    let state = kept.as_ref().unwrap_or(state);
+    let operation = (fault.named)(operation::read(record).ok_or(10)?);
     let case = Case { config, state, operation: &operation, search: fault.search };
     for (number, plain) in QUESTIONS {
         let question = fault.instead.filter(|(instead, _)| *instead == number).map_or(plain, |(_, question)| question);

@@ -3,22 +3,35 @@
 
 use super::rng::Rng;
 use crate::config::{Config, Kind, Owner};
-use crate::limits::{MAX_DEVICES, MAX_DRIVERS, MAX_OBJECTS, MAX_PARTITION, STATE_BYTES};
+use crate::limits::{MAX_DEVICES, MAX_DRIVERS, MAX_PARTITION, RECORD_BYTES, area_bytes};
 use crate::state::{EXISTING, NONE, State, holding};
 
-/// How many ways `broken_by` knows.
-pub const RULES: usize = 15;
+/// How many ways `broken_by` knows, and how many `broken_at`.
+const RULES: usize = 14;
+const PLACES: usize = 4;
 
 /// The state with one byte, or one record, that likely breaks a rule of question 9.
 pub fn broken(rng: &mut Rng, config: &Config, state: &State) -> Vec<u8> {
-    let rule = rng.below(RULES);
+    let rule = rng.below(RULES + PLACES);
     let mut state = state.clone();
     broken_by(rng, config, &mut state, rule);
     let mut area = state.to_bytes();
-    if rule == RULES - 1 {
-        area[rng.below(STATE_BYTES)] = rng.below(256) as u8;
+    if let Some(place) = rule.checked_sub(RULES) {
+        broken_at(rng, config, &mut area, place);
     }
     area
+}
+
+/// Sets a byte: in the record behind the last object's, in the last record, at the end, or anywhere.
+fn broken_at(rng: &mut Rng, config: &Config, area: &mut [u8], place: usize) {
+    let behind_objects = area_bytes(config.objects.len());
+    let (from, length) = match place {
+        0 if behind_objects < area.len() => (behind_objects, RECORD_BYTES),
+        0 | 1 => (area.len() - RECORD_BYTES, RECORD_BYTES),
+        2 => (area.len() - 1, 1),
+        _ => (0, area.len()),
+    };
+    area[from + rng.below(length)] = rng.between(1, 255) as u8;
 }
 
 fn broken_by(rng: &mut Rng, config: &Config, state: &mut State, rule: usize) {
@@ -33,12 +46,12 @@ fn broken_by(rng: &mut Rng, config: &Config, state: &mut State, rule: usize) {
         5 => state.objects[object].partition = some_partition(rng, state),
         6 => absent(rng, &mut state.drivers, config.drivers, MAX_DRIVERS),
         7 => absent(rng, &mut state.devices, config.devices(), MAX_DEVICES),
-        8 if config.objects.len() < MAX_OBJECTS => {
-            let place = rng.between(config.objects.len(), MAX_OBJECTS - 1);
+        8 if config.objects.len() < config.room() => {
+            let place = rng.between(config.objects.len(), config.room() - 1);
             state.objects[place].partition = some_partition(rng, state);
         }
-        9 if config.objects.len() < MAX_OBJECTS => {
-            let place = rng.between(config.objects.len(), MAX_OBJECTS - 1);
+        9 if config.objects.len() < config.room() => {
+            let place = rng.between(config.objects.len(), config.room() - 1);
             state.objects[place].contents[rng.below(16)] = rng.between(1, 255) as u8;
         }
         10 => descriptor(rng, config, state, |contents, rng| contents[rng.between(1, 15)] = rng.between(1, 255) as u8),

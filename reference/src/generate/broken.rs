@@ -2,8 +2,8 @@
 
 use super::rng::Rng;
 use super::worlds::World;
-use crate::config::{Config, Entry, Kind, Owner, load};
-use crate::limits::MAX_NUMBER;
+use crate::config::{Config, Entry, Kind, Object, Owner, load};
+use crate::limits::{MAX_NUMBER, MAX_OBJECTS, MAX_ONE_BYTE, SMALL_ROOM};
 use crate::operation::Operation;
 use crate::tokens::{self, Token};
 use crate::varint;
@@ -78,13 +78,15 @@ fn with_bad_number(rng: &mut Rng, mut tokens: Vec<Token>, place: usize) -> Vec<u
     tokens::encode(&tokens)
 }
 
+/// Numbers that are out of range in some field.
+const BEYOND: [usize; 10] = [0, 2, 4, 5, 7, 17, 48, MAX_OBJECTS + 1, 128, 65_535];
+
 /// Sets one number to what its field, or most fields, cannot be.
 fn out_of_range(rng: &mut Rng, mut tokens: Vec<Token>, place: usize) -> Vec<u8> {
     let place = if rng.percent(40) { place.min(rng.below(8)) } else { place };
-    let limits = [0, 2, 4, 5, 7, 17, 48, 97, 128, 65_535];
     let number = match (rng.below(3), &tokens[place]) {
         (0, Token::Number(number)) => *number + 1,
-        (1, _) => limits[rng.below(limits.len())],
+        (1, _) => BEYOND[rng.below(BEYOND.len())],
         _ => rng.between(0, 100),
     };
     tokens[place] = Token::Number(number);
@@ -95,6 +97,24 @@ fn changed(config: &Config, mut change: impl FnMut(&mut Config)) -> Vec<u8> {
     let mut config = config.clone();
     change(&mut config);
     tokens::encode(&tokens::of_config(&config))
+}
+
+/// How many objects a widened file announces: around the limits, more than there can be, or any wide count.
+const ANNOUNCED: [usize; 8] =
+    [SMALL_ROOM + 1, MAX_ONE_BYTE, MAX_ONE_BYTE + 1, MAX_OBJECTS - 1, MAX_OBJECTS, MAX_OBJECTS + 1, 255, 256];
+
+/// The world's file with external objects added until it is wide or beyond, whole or cut anywhere.
+pub fn widened(rng: &mut Rng, world: &World) -> Vec<u8> {
+    let any = rng.between(SMALL_ROOM + 1, MAX_OBJECTS);
+    let count = rng.pick(&ANNOUNCED).filter(|_| rng.percent(70)).unwrap_or(any);
+    let mut file = changed(&world.config, |config| {
+        let count = count.max(config.objects.len());
+        config.objects.resize(count, Object { kind: Kind::Data, owner: Owner::External });
+    });
+    if rng.percent(50) {
+        file.truncate(rng.below(file.len()));
+    }
+    file
 }
 
 /// A device with two kind 4 objects or none, or a kind 4 object of a driver or of nobody.

@@ -7,7 +7,9 @@ use super::drills;
 use super::records::{self, Want};
 use super::rng::Rng;
 use super::worlds::{Size, World, world};
-use crate::limits::{ANSWER_BYTES, STATE_BYTES};
+use crate::config::load;
+use crate::limits::{ANSWER_BYTES, STATE_BYTES, STATE_BYTES_WIDE};
+use crate::operation::Operation;
 use crate::state::State;
 use std::collections::VecDeque;
 
@@ -97,6 +99,10 @@ impl Calls {
             let call = self.call(function, line);
             self.queue.push_back(call);
         }
+        if self.rng.percent(40) {
+            let call = self.widened();
+            self.queue.push_back(call);
+        }
         if self.rng.percent(25) {
             let mut call = self.call(Function::Fresh, line.clone());
             call.state = self.wrong_length(&call.state);
@@ -106,9 +112,19 @@ impl Calls {
         self.queue.push_back(fresh);
     }
 
-    /// A call with areas of the right length and any bytes.
+    /// A file that announces many objects, with a fresh state in an area of either length.
+    fn widened(&mut self) -> Call {
+        let line = broken::widened(&mut self.rng, &self.world);
+        let mut state = load(&line).map_or(Vec::new(), |config| State::fresh(&config).to_bytes());
+        state.resize([STATE_BYTES, STATE_BYTES_WIDE][self.rng.below(2)], 0);
+        let function = [Function::LoadCheck, Function::Fresh, Function::Operate][self.rng.below(3)];
+        let record = Operation::Create { partition: self.rng.between(0, 64) }.to_bytes();
+        Call { state, record, ..self.call(function, line) }
+    }
+
+    /// A call with areas of the session's lengths and any bytes.
     fn call(&mut self, function: Function, line: Vec<u8>) -> Call {
-        let state = self.rng.bytes(STATE_BYTES);
+        let state = self.rng.bytes(self.world.config.state_bytes());
         let count = self.rng.below(12);
         let record = self.rng.bytes(count);
         Call { function, line, state, record, answer: self.answer(), carried: false }
@@ -119,9 +135,13 @@ impl Calls {
         self.rng.bytes(length)
     }
 
+    /// The area with another length than the session's file needs, often the one that other files need.
     fn wrong_length(&mut self, area: &[u8]) -> Vec<u8> {
         let mut area = area.to_vec();
-        let lengths = [0, 1, STATE_BYTES - 1, STATE_BYTES + 1, 2 * STATE_BYTES, self.rng.below(STATE_BYTES)];
+        let needed = self.world.config.state_bytes();
+        let other = STATE_BYTES + STATE_BYTES_WIDE - needed;
+        let near = [0, 1, needed - 1, needed + 1, 2 * needed, self.rng.below(needed)];
+        let lengths = [&near[..], &[other, other, other - 1, other + 1]].concat();
         area.resize(lengths[self.rng.below(lengths.len())], 0);
         area
     }
@@ -129,7 +149,8 @@ impl Calls {
     /// An operation: the drill's or session's next one, or one beside it.
     fn operation(&mut self) -> Call {
         let area = self.state.clone();
-        let state = State::from_bytes(&area).unwrap_or_else(|| State::fresh(&self.world.config));
+        let config = &self.world.config;
+        let state = State::from_bytes(config, &area).unwrap_or_else(|| State::fresh(config));
         let line = self.world.line.clone();
         let answer = self.answer();
         if let Some(record) = self.drill.pop_front() {

@@ -5,6 +5,7 @@ pub mod areas;
 pub mod broken;
 pub mod calls;
 pub mod drills;
+pub mod lengths;
 pub mod likely;
 pub mod memories;
 pub mod names;

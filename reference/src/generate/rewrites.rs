@@ -1,5 +1,6 @@
 //! Calls of the function that rewrites a configuration file: an accepted file into areas of every length that matters,
-//! files that each question refuses, and files of any bytes. The areas are full of noise.
+//! files that each question refuses, files that announce many objects, and files of any bytes. The areas are full of
+//! noise.
 
 use super::broken;
 use super::rng::Rng;
@@ -26,6 +27,8 @@ pub fn rewrites(rng: &mut Rng, world: &World) -> Vec<Rewrite> {
         let line = broken::line(rng, world, number);
         calls.push(somewhere(rng, line));
     }
+    let widened = broken::widened(rng, world);
+    calls.push(somewhere(rng, widened));
     let mut changed = world.line.clone();
     changed[rng.below(length)] = rng.between(0, 130) as u8;
     calls.push(somewhere(rng, changed));

@@ -3,7 +3,9 @@
 
 use super::rng::Rng;
 use crate::config::{Config, Entry, Kind, Object, Owner};
-use crate::limits::{MAX_DEVICES, MAX_DRIVERS, MAX_ENTRIES, MAX_OBJECTS, MAX_PARTITION, MAX_VALUES};
+use crate::limits::{
+    MAX_DEVICES, MAX_DRIVERS, MAX_ENTRIES, MAX_OBJECTS, MAX_ONE_BYTE, MAX_PARTITION, MAX_VALUES, SMALL_ROOM,
+};
 use crate::tokens;
 
 /// How large a configuration is.
@@ -14,13 +16,21 @@ pub enum Size {
     Medium,
     /// Few devices and all values: room for chains of forty links.
     Deep,
-    /// All four counts at their limits.
+    /// As many objects as the shorter state area has room for, and the other counts at their limits.
     Full,
+    /// More objects than that, all values, and chains through objects whose numbers have two bytes.
+    Wide,
 }
 
+/// The objects of wide configurations: as few as there can be, the first count of two bytes, and as many as there can
+/// be, with one object absent and with none.
+pub const WIDE_COUNTS: [usize; 4] = [SMALL_ROOM + 1, MAX_ONE_BYTE + 1, MAX_OBJECTS - 1, MAX_OBJECTS];
+
 impl Size {
+    /// Any size. More than one in eight is wide.
     pub fn any(rng: &mut Rng) -> Size {
-        [Size::Tiny, Size::Small, Size::Medium, Size::Deep, Size::Full][rng.weighted(&[24, 37, 23, 8, 8])]
+        [Size::Tiny, Size::Small, Size::Medium, Size::Deep, Size::Full, Size::Wide]
+            [rng.weighted(&[20, 31, 19, 7, 7, 16])]
     }
 }
 
@@ -53,7 +63,8 @@ pub fn world(rng: &mut Rng, size: Size) -> World {
     let (drivers, devices, objects, values) = counts(rng, size);
     let mut zones: Vec<usize> = (1..=MAX_PARTITION).collect();
     rng.shuffle(&mut zones);
-    zones.truncate(if objects < 20 || size == Size::Deep { rng.between(1, 2) } else { rng.between(1, 4) });
+    let few_zones = objects < 20 || size == Size::Deep || (size == Size::Wide && devices < MAX_DEVICES);
+    zones.truncate(if few_zones { rng.between(1, 2) } else { rng.between(1, 4) });
     let mut free: Vec<usize> = (1..=values).collect();
     rng.shuffle(&mut free);
     let driver_homes = homes(rng, &zones, drivers);
@@ -93,8 +104,16 @@ fn counts(rng: &mut Rng, size: Size) -> (usize, usize, usize, usize) {
             let devices = rng.between(1, 8);
             (rng.between(1, 8), devices, rng.between(devices + 8, 56), rng.between(8, 36))
         }
-        Size::Deep => (rng.between(1, 3), rng.between(1, 3), rng.between(70, MAX_OBJECTS), MAX_VALUES),
-        Size::Full => (MAX_DRIVERS, MAX_DEVICES, MAX_OBJECTS, MAX_VALUES),
+        Size::Deep => (rng.between(1, 3), rng.between(1, 3), rng.between(70, SMALL_ROOM), MAX_VALUES),
+        Size::Full => (MAX_DRIVERS, MAX_DEVICES, SMALL_ROOM, MAX_VALUES),
+        Size::Wide => {
+            let objects = WIDE_COUNTS[rng.below(WIDE_COUNTS.len())];
+            if rng.percent(75) {
+                (rng.between(1, 3), rng.between(1, 3), objects, MAX_VALUES)
+            } else {
+                (MAX_DRIVERS, MAX_DEVICES, objects, MAX_VALUES)
+            }
+        }
     }
 }
 
@@ -200,6 +219,10 @@ impl Maker<'_> {
         let (mut descriptors, plain): (Vec<usize>, Vec<usize>) =
             here.iter().partition(|object| self.world.config.kind(**object) == Kind::Transfer);
         self.rng.shuffle(&mut descriptors);
+        // Where there are objects with numbers of two bytes, most chains go through these first.
+        if self.world.config.objects.len() > MAX_ONE_BYTE && self.rng.percent(75) {
+            descriptors.sort_by_key(|object| *object <= MAX_ONE_BYTE);
+        }
         // Long chains get no further descriptors, which would be short cuts; one chain in eight lacks a read.
         let others = if values.len() > 8 { plain } else { here };
         let miss = if self.rng.percent(12) { self.rng.below(values.len()) } else { values.len() };

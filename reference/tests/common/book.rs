@@ -1,6 +1,6 @@
 //! The plain book of document 01, kept from the file, the records and the answers alone. It shares no code with the
-//! library's state and effect: records are taken apart here by hand, offsets are written out. An accepted record has
-//! numbers of one byte only, because everything that it names exists.
+//! library's state and effect: records are taken apart here by hand, offsets are written out. In an accepted record
+//! only objects can have numbers of two bytes, because everything that it names exists.
 
 use reference::config::{Config, Kind, Owner};
 
@@ -9,8 +9,28 @@ pub struct Book {
     standings: [u8; 64],
     drivers: [u8; 17],
     cards: [u8; 17],
-    partitions: [u8; 97],
-    contents: [[u8; 16]; 97],
+    partitions: [u8; 193],
+    contents: [[u8; 16]; 193],
+}
+
+/// The object that a record names here, and what stands behind it.
+fn object(record: &[u8]) -> (usize, &[u8]) {
+    match record {
+        [low @ 128..=255, high, rest @ ..] => (usize::from(*low) - 128 + 128 * usize::from(*high), rest),
+        [low, rest @ ..] => (usize::from(*low), rest),
+        [] => panic!("an object is missing"),
+    }
+}
+
+/// All objects that a record lists from here on.
+fn objects(mut record: &[u8]) -> Vec<usize> {
+    let mut list = Vec::new();
+    while !record.is_empty() {
+        let (number, rest) = object(record);
+        list.push(number);
+        record = rest;
+    }
+    list
 }
 
 impl Book {
@@ -20,8 +40,8 @@ impl Book {
             standings: [0; 64],
             drivers: [0; 17],
             cards: [0; 17],
-            partitions: [0; 97],
-            contents: [[0; 16]; 97],
+            partitions: [0; 193],
+            contents: [[0; 16]; 193],
         };
         for (place, object) in file.objects.iter().enumerate() {
             if let (Kind::Hardcoded, Owner::Device(card)) = (object.kind, object.owner) {
@@ -44,33 +64,34 @@ impl Book {
             6 => self.standings[first] = 2,
             7 => self.move_driver(first, record[2], true),
             8 => self.move_card(first, record[2], true),
-            9 => record[3..].iter().for_each(|object| self.move_object(usize::from(*object), record[1], true)),
+            9 => objects(&record[3..]).iter().for_each(|object| self.move_object(*object, record[1], true)),
             10 => self.move_driver(first, 0, false),
             11 => self.move_card(first, 0, false),
-            _ => record[3..].iter().for_each(|object| self.move_object(usize::from(*object), 0, false)),
+            _ => objects(&record[3..]).iter().for_each(|object| self.move_object(*object, 0, false)),
         }
     }
 
     fn write(&mut self, record: &[u8]) {
         let mut rest = &record[3..];
-        while let [object, form, value, ..] = *rest {
-            let contents = &mut self.contents[usize::from(object)];
-            if form == 0 {
+        while !rest.is_empty() {
+            let (number, item) = object(rest);
+            let contents = &mut self.contents[number];
+            if item[0] == 0 {
                 *contents = [0; 16];
-                contents[0] = value;
-                rest = &rest[3..];
+                contents[0] = item[1];
+                rest = &item[2..];
             } else {
-                contents.copy_from_slice(&rest[2..18]);
-                rest = &rest[18..];
+                contents.copy_from_slice(&item[1..17]);
+                rest = &item[17..];
             }
         }
     }
 
     fn copy(&mut self, record: &[u8]) {
         let before = self.contents;
-        for pair in record[3..].chunks(2) {
+        for pair in objects(&record[3..]).chunks(2) {
             if pair[1] != 0 {
-                self.contents[usize::from(pair[1])] = before[usize::from(pair[0])];
+                self.contents[pair[1]] = before[pair[0]];
             }
         }
     }
@@ -100,13 +121,14 @@ impl Book {
         }
     }
 
-    /// What a state area shows.
+    /// What a state area shows: room for 96 objects, or for 192 where there are more.
     pub fn area(&self) -> Vec<u8> {
-        let mut area = vec![0; 1_728];
+        let (length, room) = if self.file.objects.len() > 96 { (3_360, 192) } else { (1_728, 96) };
+        let mut area = vec![0; length];
         area[..64].copy_from_slice(&self.standings);
         area[64..80].copy_from_slice(&self.drivers[1..]);
         area[80..96].copy_from_slice(&self.cards[1..]);
-        for object in 1..=96 {
+        for object in 1..=room {
             let place = 96 + 17 * (object - 1);
             area[place] = self.partitions[object];
             area[place + 1..place + 17].copy_from_slice(&self.contents[object]);

@@ -3,9 +3,9 @@
 
 pub mod book;
 
-use reference::limits::{ANSWER_BYTES, STATE_BYTES};
+use reference::limits::ANSWER_BYTES;
 use reference::tokens::row;
-use reference::{fresh, operate};
+use reference::{fresh, load, operate};
 
 /// File L of document 01, 45 bytes.
 pub fn file_l() -> Vec<u8> {
@@ -48,7 +48,8 @@ pub struct Desk {
 
 impl Desk {
     pub fn new(line: &[u8]) -> Desk {
-        let mut state = vec![0xEE; STATE_BYTES];
+        let length = load(line).expect("the file is accepted").state_bytes();
+        let mut state = vec![0xEE; length];
         assert_eq!(fresh(line, &mut state), 0);
         Desk { line: line.to_vec(), state, answer: vec![0; ANSWER_BYTES] }
     }

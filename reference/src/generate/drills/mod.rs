@@ -8,9 +8,13 @@ mod leaving;
 pub mod numbers;
 mod script;
 mod transfers;
+mod wide;
 
 use super::rng::Rng;
+use super::worlds::WIDE_COUNTS;
+use crate::limits::MAX_OBJECTS;
 use ladders::WAYS;
+use numbers::Numbering;
 pub use script::Drill;
 
 /// What a drill is for.
@@ -28,10 +32,13 @@ pub enum Point {
     Stairs,
     Walk,
     StoredValues,
+    WideChain,
+    WideEdge,
+    LastHardcoded,
 }
 
-/// All points, and how many drills of each are stored.
-pub const POINTS: [(Point, usize); 12] = [
+/// All points, and how many drills of each are stored. Those stored first keep their places when others are added.
+pub const POINTS: [(Point, usize); 15] = [
     (Point::CrossingByWrite, 8),
     (Point::CrossingByCopy, 4),
     (Point::LeavingByChain, 8),
@@ -44,12 +51,16 @@ pub const POINTS: [(Point, usize); 12] = [
     (Point::Stairs, 8),
     (Point::Walk, 6),
     (Point::StoredValues, 6),
+    (Point::WideChain, 1),
+    (Point::WideEdge, 2),
+    (Point::LastHardcoded, 1),
 ];
 
 /// A drill for a point; `turn` goes through the point's ways.
 fn drill(rng: &mut Rng, point: Point, turn: usize) -> Drill {
     let way = WAYS[turn % WAYS.len()];
     let inside = turn % 2 == 1;
+    let [fewest, first_of_two_bytes, one_absent, most] = WIDE_COUNTS;
     match point {
         Point::CrossingByWrite => ladders::crossing(rng, way, false),
         Point::CrossingByCopy => ladders::crossing(rng, way, true),
@@ -63,6 +74,22 @@ fn drill(rng: &mut Rng, point: Point, turn: usize) -> Drill {
         Point::Stairs => transfers::stairs(rng, [2, 3, 5, 9, 14, 20, 28, 36][turn % 8]),
         Point::Walk => transfers::walk(rng),
         Point::StoredValues => transfers::stored_values(rng),
+        Point::WideChain => wide_chain(rng, turn),
+        Point::WideEdge => wide::edge(rng, [first_of_two_bytes, one_absent, most, fewest][turn % 4]),
+        Point::LastHardcoded => wide::last_hardcoded(rng, [fewest, most, first_of_two_bytes, one_absent][turn % 4]),
+    }
+}
+
+/// The longest chain that is asked for through the most objects, its last descriptor before the last object; then
+/// others.
+fn wide_chain(rng: &mut Rng, turn: usize) -> Drill {
+    match turn {
+        0 => wide::chain(rng, MAX_OBJECTS, wide::LINKS, Numbering::Kept),
+        _ => {
+            let (objects, links) = (WIDE_COUNTS[turn % 4], rng.between(2, wide::LINKS));
+            let numbering = Numbering::any(rng);
+            wide::chain(rng, objects, links, numbering)
+        }
     }
 }
 

@@ -59,7 +59,8 @@ impl Numbers {
             *number = match name {
                 Name::Driver => self.drivers[*number],
                 Name::Device => self.devices[*number],
-                Name::Object | Name::Destination => self.objects[*number],
+                // An object beyond the last has no other number.
+                Name::Object | Name::Destination => self.objects.get(*number).copied().unwrap_or(*number),
                 Name::Value => self.values[*number],
                 Name::Partition => self.partitions[*number],
             };

@@ -90,6 +90,13 @@ impl Script<'_> {
         self.world.config.objects.len()
     }
 
+    /// Data objects of this owner until there are so many objects.
+    pub fn fill(&mut self, objects: usize, owner: Owner, partition: usize) {
+        while self.world.config.objects.len() < objects {
+            self.object(Kind::Data, owner, partition);
+        }
+    }
+
     /// An object of a zone, whoever owns it.
     pub fn any_object(&mut self, kind: Kind, zone: &Zone) -> usize {
         let owners = [Owner::External, Owner::Driver(zone.driver), Owner::Device(zone.device)];

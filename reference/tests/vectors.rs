@@ -1,0 +1,168 @@
+//! The program `vectors` on cases of each kind that request N2 brought, and on those whose areas have another length
+//! now. A row's checksum is worked out here anew.
+
+mod common;
+
+use common::file_l;
+use reference::generate::lengths::plain_line;
+use reference::{load, memory};
+use std::io::Write;
+use std::process::{Command, Stdio};
+
+const REFUSED: u64 = 4_294_967_296;
+/// What a case gets that is none.
+const NONE: (u64, u64) = (255, 0);
+
+/// Answers and checksums that the program prints for these cases, each a call and its bytes.
+fn rows(cases: &[(u8, Vec<u8>)]) -> Vec<(u64, u64)> {
+    let input: Vec<u8> =
+        cases.iter().flat_map(|(call, bytes)| [&[*call][..], &two(bytes.len()), bytes].concat()).collect();
+    let mut program = Command::new(env!("CARGO_BIN_EXE_vectors"))
+        .stdin(Stdio::piped())
+        .stdout(Stdio::piped())
+        .spawn()
+        .expect("the program starts");
+    program.stdin.take().expect("its input").write_all(&input).expect("it reads all");
+    let output = program.wait_with_output().expect("the program ends");
+    assert!(output.status.success());
+    let text = String::from_utf8(output.stdout).expect("plain text");
+    let number = |word: Option<&str>| word.and_then(|word| word.parse().ok()).expect("three numbers");
+    let rows = text.lines().zip(1..).map(|(line, place): (&str, u64)| {
+        let mut words = line.split(' ');
+        assert_eq!(number(words.next()), place);
+        (number(words.next()), number(words.next()))
+    });
+    let rows: Vec<(u64, u64)> = rows.collect();
+    assert_eq!(rows.len(), cases.len());
+    rows
+}
+
+fn row(call: u8, bytes: Vec<u8>) -> (u64, u64) {
+    rows(&[(call, bytes)])[0]
+}
+
+fn two(number: usize) -> [u8; 2] {
+    [(number % 256) as u8, (number / 256) as u8]
+}
+
+fn checksum(area: &[u8]) -> u64 {
+    area.iter().fold(0, |sum, byte| (sum * 31 + u64::from(*byte)) % 65_521)
+}
+
+/// A file behind its length in two bytes, an area's length, and bytes set in the area.
+fn operated(line: &[u8], length: usize, patches: &[(usize, u8)]) -> Vec<u8> {
+    let patches = patches.iter().flat_map(|(place, byte)| [&two(*place)[..], &[*byte]].concat());
+    [&two(line.len())[..], line, &two(length)].concat().into_iter().chain(patches).collect()
+}
+
+#[test]
+fn fresh_states_in_areas_of_the_length_that_the_line_needs() {
+    for (objects, length) in [(0, 1_728), (96, 1_728), (97, 3_360), (192, 3_360)] {
+        let line = plain_line(objects);
+        let old = |length: usize| checksum(&vec![170; length]);
+        let cases = [2, 5, 6].map(|call| (call, line.clone()));
+        assert_eq!(rows(&cases), [(0, 0), (7, old(length - 1)), (7, old(length + 1))], "{objects}");
+    }
+    // A refused file has the shorter one.
+    let refused = [2, 5, 6].map(|call| (call, plain_line(193)));
+    let old = [1_728, 1_727, 1_729].map(|length| (3, checksum(&vec![170; length])));
+    assert_eq!(rows(&refused), old);
+}
+
+#[test]
+fn fresh_states_in_areas_of_a_given_length() {
+    let mut cases = Vec::new();
+    let mut expected = Vec::new();
+    for (objects, needed) in [(0, 1_728), (96, 1_728), (97, 3_360), (192, 3_360)] {
+        for length in [0, 1_727, 1_728, 1_729, 3_359, 3_360, 3_361, 4_096] {
+            cases.push((8, [&two(length)[..], &plain_line(objects)].concat()));
+            expected.push(if length == needed { (0, 0) } else { (7, checksum(&vec![170; length])) });
+        }
+    }
+    assert_eq!(rows(&cases), expected);
+    // The values of L's two hardcoded descriptors stand in the records 1 and 3.
+    let mut area = vec![0; 1_728];
+    (area[97], area[131]) = (1, 2);
+    assert_eq!(row(8, [&two(1_728)[..], &file_l()].concat()), (0, checksum(&area)));
+    assert_eq!(row(8, [&two(5)[..], &file_l()[..40]].concat()), (1, checksum(&[170; 5])));
+    assert_eq!(rows(&[(8, vec![]), (8, vec![9]), (8, [&two(4_097)[..], &file_l()].concat())]), [NONE; 3]);
+    assert_eq!(row(8, vec![0, 0]), (1, 0));
+}
+
+#[test]
+fn an_operation_in_an_area_of_a_given_length() {
+    let created = |length: usize, patches: &[(usize, u8)]| {
+        let mut area = vec![0; length];
+        patches.iter().chain(&[(1, 1)]).for_each(|(place, byte)| area[*place] = *byte);
+        (0, checksum(&area))
+    };
+    for (objects, needed) in [(0, 1_728), (96, 1_728), (97, 3_360), (192, 3_360)] {
+        for length in [0, 1_727, 1_728, 1_729, 3_359, 3_360, 3_361, 4_096] {
+            let expected = if length == needed { created(length, &[]) } else { (7, 0) };
+            assert_eq!(row(9, operated(&plain_line(objects), length, &[])), expected, "{objects} {length}");
+        }
+    }
+    // One byte in record N + 1, in the last record, in the last byte; and in the last object's contents.
+    for objects in [97, 191] {
+        for place in [96 + 17 * objects, 112 + 17 * objects, 3_343, 3_359] {
+            let expected = (9, checksum(&[vec![0; place], vec![5], vec![0; 3_359 - place]].concat()));
+            assert_eq!(row(9, operated(&plain_line(objects), 3_360, &[(place, 5)])), expected, "{objects} {place}");
+        }
+        let free = [(95 + 17 * objects, 255)];
+        assert_eq!(row(9, operated(&plain_line(objects), 3_360, &free)), created(3_360, &free));
+    }
+    assert_eq!(
+        row(9, operated(&plain_line(0), 1_728, &[(1, 2)])),
+        (14, checksum(&[vec![0, 2], vec![0; 1_726]].concat()))
+    );
+    assert_eq!(row(9, operated(&plain_line(193), 3_360, &[])), (3, 0));
+}
+
+#[test]
+fn cases_that_are_none() {
+    let whole = operated(&plain_line(3), 1_728, &[(2, 1)]);
+    let cut = |length: usize| (9, whole[..length].to_vec());
+    let cases: Vec<(u8, Vec<u8>)> = (0..whole.len()).map(cut).collect();
+    for (length, found) in rows(&cases).into_iter().enumerate() {
+        // Whole up to the area's length, without a patch.
+        let expected = if length == 2 + 14 + 2 { (0, checksum(&[vec![0, 1], vec![0; 1_726]].concat())) } else { NONE };
+        assert_eq!(found, expected, "{length} bytes");
+    }
+    let others = [
+        (9, operated(&file_l(), 4_097, &[])),
+        (9, operated(&file_l(), 1_728, &[(1_728, 1)])),
+        (9, operated(&file_l(), 0, &[(0, 0)])),
+        (0, vec![]),
+        (12, file_l()),
+    ];
+    assert_eq!(rows(&others), [NONE; 5]);
+}
+
+#[test]
+fn the_length_of_a_state_area() {
+    let lines = [plain_line(0), plain_line(96), plain_line(97), plain_line(192), plain_line(193), vec![], file_l()];
+    let cases = lines.map(|line| (10, line));
+    let answers = [1_728, 1_728, 3_360, 3_360, REFUSED + 3, REFUSED + 1, 1_728];
+    assert_eq!(rows(&cases), answers.map(|answer| (answer, 0)));
+}
+
+#[test]
+fn configurations_in_memory_of_both_layouts() {
+    let case = |call: u8, places: usize, objects: usize| {
+        let memory = memory::Memory::of(&load(&plain_line(objects)).expect("the file is accepted"));
+        (call, [&two(600)[..], &memory.to_row(places)].concat())
+    };
+    let written = |objects: usize| {
+        let file = plain_line(objects);
+        (file.len() as u64, checksum(&[&file[..], &vec![170; 600 - file.len()]].concat()))
+    };
+    let refused = (REFUSED + 3, checksum(&[170; 600]));
+    let cases =
+        [case(7, 97, 0), case(7, 97, 96), case(7, 97, 97), case(11, 193, 96), case(11, 193, 97), case(11, 193, 192)];
+    assert_eq!(rows(&cases), [written(0), written(96), refused, written(96), written(97), written(192)]);
+    // A row that is longer than its memory.
+    let longer = |call: u8, bytes: usize| (call, [&two(0)[..], &vec![0; bytes]].concat());
+    let found = rows(&[longer(7, 1_227), longer(7, 1_228), longer(11, 1_515), longer(11, 1_516)]);
+    let short = (2 * REFUSED + 5, 0);
+    assert_eq!(found, [short, NONE, short, NONE]);
+}
