@@ -1,33 +1,55 @@
 """Where bytes stand by document 01: its limits, the state area's places, a configuration in memory as the writer is
-given it (request N1), and rows of numbers. Nothing here judges."""
-MOST_DRIVERS, MOST_DEVICES, MOST_OBJECTS, MOST_VALUES, MOST_ENTRIES = 16, 16, 96, 47, 6
+given it (requests N1 and N2), and rows of numbers. Nothing here judges."""
+MOST_DRIVERS, MOST_DEVICES, MOST_OBJECTS, MOST_VALUES, MOST_ENTRIES = 16, 16, 192, 47, 6
 MOST_ITEMS = 8
+# A line of at most so many objects is a small one, and its area has as many records; a wide one's has one for each
+# object that there may be.
+SMALL_ROOM = 96
 PARTITIONS = 64
 CONTENT = 16
+RECORD = 1 + CONTENT
 DRIVERS_FROM = PARTITIONS
 DEVICES_FROM = DRIVERS_FROM + MOST_DRIVERS
 RECORDS_FROM = DEVICES_FROM + MOST_DEVICES
-AREA = RECORDS_FROM + (1 + CONTENT) * MOST_OBJECTS
+AREA = RECORDS_FROM + RECORD * SMALL_ROOM
+WIDE_AREA = RECORDS_FROM + RECORD * MOST_OBJECTS
 
-# In memory: the counts D, V, N and K, then columns in which number n stands at place n, and the entries side by side.
+# The counts of a configuration in memory, which come first: D, V, N and K.
 DRIVERS, DEVICES, OBJECTS, VALUES = range(4)
-KINDS_FROM = 4
-CLASSES_FROM = KINDS_FROM + MOST_OBJECTS + 1
-OWNERS_FROM = CLASSES_FROM + MOST_OBJECTS + 1
-HARDCODED_FROM = OWNERS_FROM + MOST_OBJECTS + 1
-COUNTS_FROM = HARDCODED_FROM + MOST_DEVICES + 1
-ENTRIES_FROM = COUNTS_FROM + MOST_VALUES + 1
-MEMORY = ENTRIES_FROM + 3 * (MOST_ENTRIES * (MOST_VALUES + 1) + 1)
+COUNTS = 4
 
 
-def entry_at(value, entry):
-    """Where entry j, from 1, of a value begins: its object, then its mode, then its stored value."""
-    return ENTRIES_FROM + 3 * (MOST_ENTRIES * value + entry)
+class Columns:
+    """A configuration in memory: the counts, then columns in which number n stands at place n, those of the objects for
+    numbers up to `most`, and the entries side by side."""
+
+    def __init__(self, most):
+        self.most = most
+        self.kinds = COUNTS
+        self.classes = self.kinds + most + 1
+        self.owners = self.classes + most + 1
+        self.hardcoded = self.owners + most + 1
+        self.counts = self.hardcoded + MOST_DEVICES + 1
+        self.entries = self.counts + MOST_VALUES + 1
+        self.end = self.entries + 3 * (MOST_ENTRIES * (MOST_VALUES + 1) + 1)
+
+    def entry(self, value, entry):
+        """Where entry j, from 1, of a value begins: its object, then its mode, then its stored value."""
+        return self.entries + 3 * (MOST_ENTRIES * value + entry)
+
+
+# The columns of a case with small lines alone, and of one with lines of every size.
+SMALL, WIDE = Columns(SMALL_ROOM), Columns(MOST_OBJECTS)
+
+
+def area_of(objects):
+    """The length of the state area of a line of so many objects."""
+    return AREA if objects <= SMALL_ROOM else WIDE_AREA
 
 
 def record_at(n):
     """Where the record of object n begins."""
-    return RECORDS_FROM + (1 + CONTENT) * (n - 1)
+    return RECORDS_FROM + RECORD * (n - 1)
 
 
 def number(n):

@@ -4,11 +4,24 @@
     tests/vectors.py            write crates/vectors/stdin, stdout and cases.txt
     tests/vectors.py --check    fail if what is stored differs
 
-The cases are made here (those of the writer of files in vectors_write.py) and judged elsewhere: answers and checksums
-are the reference's, by its program `vectors`. A named case states its answer, and if the reference gives another,
-nothing is written and the check fails. A case is a byte for what is called, its length in two bytes, lower byte first,
-and its bytes; its row is its place from 1, the answer, and a checksum of what the call left (0 where it leaves
-nothing).
+The cases are made here (those of the writer of files in vectors_write.py, those of wide lines in vectors_wide.py) and
+judged elsewhere: answers and checksums are the reference's, by its program `vectors`. A named case states its answer,
+and if the reference gives another, nothing is written and the check fails. A case is a byte for what is called, its
+length in two bytes, lower byte first, and its bytes; its row is its place from 1, the answer, and a checksum of what
+the call left (0 where it leaves nothing). What is called:
+
+    1         the load check, on a file
+    2, 5, 6   a fresh state of a file, in an area of the length that its line needs, a byte shorter or longer (as for
+              a small line if the file is refused), full of one byte
+    3         question 9 of a file, after its length in a byte, and the bytes of the area that are not 0: a place in
+              two bytes, and the byte
+    4         question 10 of a record
+    7, 11     the writer, on an area's length in two bytes and a configuration in memory; a column of its objects has
+              97 bytes in 7, which is for small lines, and 193 in 11
+    8         a fresh state of a file, after an area's length in two bytes
+    9         an operation that creates partition 1: a file after its length in two bytes, an area's length in two
+              bytes, and the bytes of the area that are not 0, as in 3
+    10        the length of a file's state area
 """
 import os
 import pathlib
@@ -16,13 +29,15 @@ import random
 import subprocess
 import sys
 
+import vectors_wide
 import vectors_write
 from layout import (AREA, CONTENT, DEVICES_FROM, DRIVERS_FROM, MOST_DEVICES, MOST_DRIVERS, MOST_ENTRIES, MOST_ITEMS,
-                    MOST_OBJECTS, MOST_VALUES, record_at, row, two)
+                    MOST_VALUES, SMALL_ROOM, record_at, row, two)
 
 TOP = pathlib.Path(__file__).resolve().parent.parent
 HOME = TOP / "crates" / "vectors"
 LOAD, FRESH, FORMED, OPERATION, FRESH_SHORT, FRESH_LONG, WRITE = 1, 2, 3, 4, 5, 6, 7
+FRESH_IN, OPERATE_IN, STATE_BYTES, WRITE_WIDE = 8, 9, 10, 11
 # What the program `vectors` takes in.
 MOST_INPUT = 131072
 
@@ -41,9 +56,9 @@ def with_numbers(*changes):
 
 
 def full_size():
-    """The largest file: every count at its limit, six entries in every value."""
-    out = [1, MOST_DRIVERS, MOST_DEVICES, MOST_OBJECTS, MOST_VALUES]
-    for n in range(1, MOST_OBJECTS + 1):
+    """The largest file of a small line: every other count at its limit, six entries in every value."""
+    out = [1, MOST_DRIVERS, MOST_DEVICES, SMALL_ROOM, MOST_VALUES]
+    for n in range(1, SMALL_ROOM + 1):
         out += [4, 2, n] if n <= 16 else [1, 2, (n - 1) % 16 + 1] if n <= 64 else [3, 1, (n - 1) % 16 + 1]
     out += range(1, MOST_DEVICES + 1)
     for v in range(1, MOST_VALUES + 1):
@@ -56,11 +71,11 @@ def full_size():
 def named_counts():
     yield "document 01's file L", row(L), 0
     yield "no driver, device, object or value", row([1, 0, 0, 0, 0]), 0
-    yield "every count at its limit", full_size(), 0
+    yield "every count at its limit, and 96 objects", full_size(), 0
     yield "values at the limit, 47", row([1, 0, 0, 0, 47] + [0] * 47), 0
     yield "one value more, 48", row([1, 0, 0, 0, 48] + [0] * 48), 3
-    yield "objects at the limit, 96", row([1, 0, 0, 96, 0] + [3, 0, 0] * 96), 0
-    yield "one object more, 97", row([1, 0, 0, 97, 0] + [3, 0, 0] * 97), 3
+    yield "as many objects as a small line has, 96", row([1, 0, 0, 96, 0] + [3, 0, 0] * 96), 0
+    yield "one object more, 97", row([1, 0, 0, 97, 0] + [3, 0, 0] * 97), 0
     yield "drivers at the limit, 16", row([1, 16, 0, 0, 0]), 0
     yield "one driver more, 17", row([1, 17, 0, 0, 0]), 3
     yield "one device more, 17", row([1, 0, 17, 0, 0]), 3
@@ -158,7 +173,7 @@ def named_fresh():
         yield f"fresh: an area of {length} bytes", row(L), length, 0 if length == AREA else 7
     yield "fresh: a refused file comes before the area's length", row(L) + b"\0", AREA - 1, 4
     yield "fresh: every hardcoded value", row([1, 0, 3, 3, 3, 4, 2, 3, 4, 2, 1, 4, 2, 2, 3, 2, 1, 0, 0, 0]), AREA, 0
-    yield "fresh: every count at its limit", full_size(), AREA, 0
+    yield "fresh: every count at its limit, and 96 objects", full_size(), AREA, 0
 
 
 # A well formed state of L: partitions 1 and 2 exist and 3 is destroyed; driver 1, device 1 and object 5 are in 1,
@@ -244,7 +259,12 @@ def case(label, call, data, stated=None):
     return label, bytes([call]) + two(len(data)) + data, stated
 
 
-def cases():
+def patches(area):
+    """The bytes of an area that are not 0, each after its place."""
+    return b"".join(two(place) + bytes([byte]) for place, byte in sorted(area.items()) if byte)
+
+
+def small_cases():
     for named in (named_counts(), named_numbers(), named_fields(), named_hardcoded()):
         for label, data, stated in named:
             yield case(label, LOAD, data, stated)
@@ -253,14 +273,40 @@ def cases():
     for label, file, length, stated in named_fresh():
         yield case(label, {AREA - 1: FRESH_SHORT, AREA: FRESH, AREA + 1: FRESH_LONG}[length], file, stated)
     for label, changes, stated in named_areas():
-        area = sorted({**ACTIVE, **changes}.items())
-        patches = b"".join(two(place) + bytes([byte]) for place, byte in area if byte)
-        yield case(label, FORMED, bytes([len(L)]) + row(L) + patches, stated)
+        yield case(label, FORMED, bytes([len(L)]) + row(L) + patches({**ACTIVE, **changes}), stated)
     for label, record, stated in named_records():
         yield case(label, OPERATION, record, stated)
     # An area's length, and a configuration in memory without the zeros at its end.
     for label, length, memory, stated in vectors_write.cases(L, full_size()):
         yield case(label, WRITE, two(length) + bytes(memory).rstrip(b"\0"), stated)
+
+
+def wide_cases():
+    for named in (vectors_wide.files(), vectors_wide.named_objects()):
+        for label, data, stated in named:
+            yield case(label, LOAD, data, stated)
+    file = row(vectors_write.last_hardcoded(97))
+    for call, length, stated in ((FRESH, "as it needs", 0), (FRESH_SHORT, "shorter", 7), (FRESH_LONG, "longer", 7)):
+        yield case(f"fresh: object 97 is hardcoded, an area {length}", call, file, stated)
+    for label, file, length, stated in vectors_wide.fresh_lengths():
+        yield case(f"fresh: {label}", FRESH_IN, two(length) + file, stated)
+    for label, file, length, stated in vectors_wide.lengths():
+        yield case(f"operate: {label}", OPERATE_IN, two(len(file)) + file + two(length), stated)
+    for named in (vectors_wide.absent(), vectors_wide.present()):
+        for label, file, length, area, stated in named:
+            yield case(label, OPERATE_IN, two(len(file)) + file + two(length) + patches(area), stated)
+    for label, file, stated in vectors_wide.needed():
+        yield case(label, STATE_BYTES, file, stated)
+    for label, record, stated in vectors_wide.records():
+        yield case(label, OPERATION, record, stated)
+    for label, length, memory, stated in vectors_write.wide_cases(L, vectors_wide.wide_size()):
+        yield case(label, WRITE_WIDE, two(length) + bytes(memory).rstrip(b"\0"), stated)
+
+
+def cases():
+    """Those of small lines first, whose bytes stay as they were."""
+    yield from small_cases()
+    yield from wide_cases()
 
 
 def reference_program(name):

@@ -1,16 +1,23 @@
 // One stored case: what is called, and the row that it gives.
 ghost use mathlib.Core.Path.{_≡_};
-ghost use Prim.Native.Nat.{_+_, _*_, _<_};
+ghost use Prim.Native.Nat.{_+_, _*_, _≤_, _<_};
 ghost use lib.ListN.{length};
+ghost use Rattle.model.specs.Config.{mostObjects};
+ghost use Rattle.model.specs.State.{areaLength};
+use crate::memory::judge_wide_write;
 use crate::memory::judge_write;
+use effect::ANSWER_BYTES;
 use model::MOST_ITEMS;
-use model::MOST_OBJECTS;
 use model::Operation;
 use state::AREA_BYTES;
 use state::bytes::wide_word;
+use state::room::area_length;
+use state::room::room_for;
 
-// What a case calls: the load check; making a fresh state in an area of the right length, of a byte less and of a byte
-// more; question 9; question 10; the writer on a configuration in memory.
+// What a case calls: the load check; making a fresh state in an area of the length that the line needs, of a byte less
+// and of a byte more; question 9; question 10; the writer on a configuration in memory, with columns for few objects;
+// making a fresh state in an area of any length; creating a partition on an area of any length and content; the length
+// that the line needs; the writer with columns for every object.
 const LOAD: u8 = 1;
 
 const FRESH: u8 = 2;
@@ -25,17 +32,39 @@ const OPERATION: u8 = 4;
 
 const WRITE: u8 = 7;
 
+const FRESH_IN: u8 = 8;
+
+const CREATE_IN: u8 = 9;
+
+const STATE_BYTES: u8 = 10;
+
+const WRITE_WIDE: u8 = 11;
+
+// How long the area of a case is at most.
+pub(crate) const MOST_AREA: usize = 4096;
+
 // The answer for a case that is none.
-pub(crate) const UNKNOWN: u64 = 255;
+const UNKNOWN: u64 = 255;
 
 // What an area holds before a fresh state is made in it.
 pub(crate) const OLD_BYTE: u8 = 170;
 
 const PATCH_BYTES: usize = 3;
 
+// The code that creates a partition.
+const CREATE_CODE: u8 = 5;
+
 pub(crate) struct Row {
     pub answer: u64,
     pub left: u64,
+}
+
+// The row of a case that is none.
+pub(crate) fn unknown() -> Row {
+    Row {
+        answer: UNKNOWN,
+        left: 0,
+    }
 }
 
 // A number in two bytes, lower byte first.
@@ -117,28 +146,47 @@ fn fresh_row(file: &[u8], area: &mut [u8]) -> Row {
     }
 }
 
-fn fresh_short(file: &[u8]) -> Row {
-    let mut area = [OLD_BYTE; AREA_BYTES - 1];
-    fresh_row(file, &mut area)
-}
-
-fn fresh_right(file: &[u8]) -> Row {
-    let mut area = [OLD_BYTE; AREA_BYTES];
-    fresh_row(file, &mut area)
-}
-
-fn fresh_long(file: &[u8]) -> Row {
-    let mut area = [OLD_BYTE; AREA_BYTES + 1];
-    fresh_row(file, &mut area)
-}
-
-// A file, in an area a byte short, of the right length, or a byte too long.
-fn judge_fresh(lack: u8, file: &[u8]) -> Row {
-    match lack {
-        0 => fresh_right(file),
-        1 => fresh_short(file),
-        _ => fresh_long(file),
+// A file, in an area of n bytes.
+fn fresh_of(file: &[u8], n: usize) -> Row {
+    let mut area = [OLD_BYTE; MOST_AREA];
+    if MOST_AREA < n {
+        return unknown();
     }
+    fresh_row(file, &mut area[0..n])
+}
+
+// The length of the area that a file's line needs; a refused file has no objects.
+fn needed(file: &[u8]) -> usize
+    ensures { λ r. ⌜ (1 ≤ r) × (r ≤ areaLength mostObjects) ⌝ }
+{
+    let loaded = config::load(file);
+    let config = loaded.config;
+    let room = room_for(config.counts.objects);
+    area_length(room)
+}
+
+// A file, in an area of the length that its line needs, a byte shorter, or a byte longer.
+fn judge_fresh(file: &[u8]) -> Row {
+    let n = needed(file);
+    fresh_of(file, n)
+}
+
+fn judge_short(file: &[u8]) -> Row {
+    let n = needed(file);
+    fresh_of(file, n - 1)
+}
+
+fn judge_long(file: &[u8]) -> Row {
+    let n = needed(file);
+    fresh_of(file, n + 1)
+}
+
+// The area's length in two bytes, and the file.
+fn judge_fresh_in(bytes: &[u8]) -> Row {
+    if bytes.len() < 2 {
+        return unknown();
+    }
+    fresh_of(&bytes[2..], two(bytes[0], bytes[1]))
 }
 
 fn poke(area: &mut [u8], place: usize, b: u8)
@@ -159,37 +207,78 @@ fn patch(area: &mut [u8], patches: &[u8]) {
     }
 }
 
-// A file after its length, and the bytes of the area that are not 0.
-fn judge_formed(bytes: &[u8]) -> Row {
-    let mut area = [0u8; AREA_BYTES];
-    if bytes.len() < 1 {
-        return Row {
-            answer: UNKNOWN,
-            left: 0,
-        };
-    }
-    let end = two(bytes[0], 0) + 1;
-    if bytes.len() < end {
-        return Row {
-            answer: UNKNOWN,
-            left: 0,
-        };
-    }
-    patch(&mut area, &bytes[end..]);
-    let loaded = config::load(&bytes[1..end]);
+// Question 9, of as much of the area as the file's line needs.
+fn formed_row(file: &[u8], area: &[u8]) -> Row {
+    let loaded = config::load(file);
     let config = loaded.config;
-    let formed = state::formed::well_formed(&area, MOST_OBJECTS as usize, config);
     if loaded.answer != 0 {
         return Row {
             answer: loaded.answer as u64,
             left: 0,
         };
     }
-    if formed {
+    let room = room_for(config.counts.objects);
+    let n = area_length(room);
+    if area.len() < n {
+        return unknown();
+    }
+    if state::formed::well_formed(&area[0..n], room, config) {
         Row { answer: 0, left: 0 }
     } else {
         Row { answer: 9, left: 0 }
     }
+}
+
+// A file after its length, and the bytes of the area that are not 0.
+fn judge_formed(bytes: &[u8]) -> Row {
+    let mut area = [0u8; AREA_BYTES];
+    if bytes.len() < 1 {
+        return unknown();
+    }
+    let end = two(bytes[0], 0) + 1;
+    if bytes.len() < end {
+        return unknown();
+    }
+    patch(&mut area, &bytes[end..]);
+    formed_row(&bytes[1..end], &area)
+}
+
+// The record that creates partition 1, on an area with patches.
+fn create_row(file: &[u8], area: &mut [u8], patches: &[u8]) -> Row {
+    let mut answer = [0u8; ANSWER_BYTES];
+    let record = [CREATE_CODE, 1];
+    patch(area, patches);
+    let number = gate::gate_operate(file, area, &record, &mut answer);
+    Row {
+        answer: wider(number),
+        left: sum_bytes(0, &area[..]),
+    }
+}
+
+// The same on an area of n bytes, all 0 but the patches.
+fn create_in(file: &[u8], n: usize, patches: &[u8]) -> Row {
+    let mut area = [0u8; MOST_AREA];
+    if MOST_AREA < n {
+        return unknown();
+    }
+    create_row(file, &mut area[0..n], patches)
+}
+
+// The file's length in two bytes, the file, the area's length in two bytes, and the bytes of the area that are not 0.
+fn judge_create_in(bytes: &[u8]) -> Row {
+    if bytes.len() < 2 {
+        return unknown();
+    }
+    let end = two(bytes[0], bytes[1]) + 2;
+    let from = end + 2;
+    if bytes.len() < from {
+        return unknown();
+    }
+    create_in(
+        &bytes[2..end],
+        two(bytes[end], bytes[end + 1]),
+        &bytes[from..],
+    )
 }
 
 pub(crate) fn judge(call: u8, bytes: &[u8]) -> Row {
@@ -198,15 +287,19 @@ pub(crate) fn judge(call: u8, bytes: &[u8]) -> Row {
             answer: wider(gate::gate_load_check(bytes)),
             left: 0,
         },
-        FRESH => judge_fresh(0, bytes),
-        FRESH_SHORT => judge_fresh(1, bytes),
-        FRESH_LONG => judge_fresh(2, bytes),
+        FRESH => judge_fresh(bytes),
+        FRESH_SHORT => judge_short(bytes),
+        FRESH_LONG => judge_long(bytes),
         FORMED => judge_formed(bytes),
         OPERATION => judge_operation(bytes),
         WRITE => judge_write(bytes),
-        _ => Row {
-            answer: UNKNOWN,
+        FRESH_IN => judge_fresh_in(bytes),
+        CREATE_IN => judge_create_in(bytes),
+        STATE_BYTES => Row {
+            answer: gate::gate_state_bytes(bytes),
             left: 0,
         },
+        WRITE_WIDE => judge_wide_write(bytes),
+        _ => unknown(),
     }
 }

@@ -1,9 +1,10 @@
 // A case of the writer: a configuration in memory, filled from bytes, and what the writer answers and leaves.
+use crate::cases::MOST_AREA;
 use crate::cases::OLD_BYTE;
 use crate::cases::Row;
-use crate::cases::UNKNOWN;
 use crate::cases::sum_bytes;
 use crate::cases::two;
+use crate::cases::unknown;
 use model::Config;
 use model::Counts;
 use model::DEVICE_SLOTS;
@@ -11,17 +12,19 @@ use model::Devices;
 use model::ENTRY_SLOTS;
 use model::OBJECT_SLOTS;
 use model::Objects;
+use model::SMALL_ROOM;
 use model::VALUE_SLOTS;
 use model::Values;
 use model::byte_at;
 use writer::code_of;
 
-// How long the area of a case is at most, and how many bytes there are before the columns.
-const MOST_AREA: usize = 4096;
-
+// How many bytes there are before the columns.
 const LENGTH_BYTES: usize = 2;
 
 const COUNT_BYTES: usize = 4;
+
+// How many bytes the column of a case has where there are few objects.
+const SMALL_SLOTS: usize = SMALL_ROOM as usize + 1;
 
 // The bytes after the first n.
 fn after(bytes: &[u8], n: usize) -> &[u8] {
@@ -30,6 +33,15 @@ fn after(bytes: &[u8], n: usize) -> &[u8] {
         return &bytes[end..];
     }
     &bytes[n..]
+}
+
+// The first n bytes, or all where there are fewer.
+fn upto(bytes: &[u8], n: usize) -> &[u8] {
+    let end = bytes.len();
+    if end < n {
+        return &bytes[0..end];
+    }
+    &bytes[0..n]
 }
 
 // A column's bytes, as far as there are any; the others stay 0.
@@ -41,20 +53,20 @@ fn fill(column: &mut [u8], bytes: &[u8]) {
     }
 }
 
-// The columns one after the other.
-fn filled(counts: Counts, bytes: &[u8]) -> Config {
+// The columns one after the other; those of objects have `slots` bytes each.
+fn filled(counts: Counts, slots: usize, bytes: &[u8]) -> Config {
     let mut kind = [0u8; OBJECT_SLOTS];
     let mut class = [0u8; OBJECT_SLOTS];
     let mut owner = [0u8; OBJECT_SLOTS];
     let mut hardcoded = [0u8; DEVICE_SLOTS];
     let mut count = [0u8; VALUE_SLOTS];
     let mut entries = [0u8; ENTRY_SLOTS];
-    fill(&mut kind, bytes);
-    let a = after(bytes, OBJECT_SLOTS);
-    fill(&mut class, a);
-    let b = after(a, OBJECT_SLOTS);
-    fill(&mut owner, b);
-    let c = after(b, OBJECT_SLOTS);
+    fill(&mut kind, upto(bytes, slots));
+    let a = after(bytes, slots);
+    fill(&mut class, upto(a, slots));
+    let b = after(a, slots);
+    fill(&mut owner, upto(b, slots));
+    let c = after(b, slots);
     fill(&mut hardcoded, c);
     let d = after(c, DEVICE_SLOTS);
     fill(&mut count, d);
@@ -89,12 +101,9 @@ fn written(config: Config, area: &mut [u8]) -> Row {
 }
 
 // The area's length in two bytes, the four counts, and the columns; bytes that are missing at the end are 0.
-pub(crate) fn judge_write(bytes: &[u8]) -> Row {
+fn judge_columns(slots: usize, bytes: &[u8]) -> Row {
     if bytes.len() < LENGTH_BYTES {
-        return Row {
-            answer: UNKNOWN,
-            left: 0,
-        };
+        return unknown();
     }
     let memory = after(bytes, LENGTH_BYTES);
     let counts = Counts {
@@ -103,8 +112,17 @@ pub(crate) fn judge_write(bytes: &[u8]) -> Row {
         objects: byte_at(memory, 2),
         values: byte_at(memory, 3),
     };
-    let config = filled(counts, after(memory, COUNT_BYTES));
+    let config = filled(counts, slots, after(memory, COUNT_BYTES));
     let mut area = [OLD_BYTE; MOST_AREA];
     let n = io::count(two(bytes[0], bytes[1]) as isize, &area);
     written(config, &mut area[..n])
+}
+
+// A case with columns for a small room, or for every object that there may be.
+pub(crate) fn judge_write(bytes: &[u8]) -> Row {
+    judge_columns(SMALL_SLOTS, bytes)
+}
+
+pub(crate) fn judge_wide_write(bytes: &[u8]) -> Row {
+    judge_columns(OBJECT_SLOTS, bytes)
 }
