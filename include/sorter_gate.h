@@ -2,8 +2,8 @@
  * The sorter gate: judges the operations that move devices, drivers and objects between partitions.
  *
  * Every call answers a number: 0 is accepted, any other is the first question of document 01 that is answered with no
- * (the list is below). The answer of gate_rewrite alone has a kind beside its number. Calls keep nothing between them,
- * use no heap and no global, and always return.
+ * (the list is below). The answers of gate_rewrite and gate_state_bytes alone have a kind beside their number. Calls
+ * keep nothing between them, use no heap and no global, and always return.
  *
  * The caller lends byte areas by pointer and length. A pointer is valid for its length, of any alignment, and is not
  * null, even at length 0. An area that is written (state, answer, out) overlaps no other area of the call, and nobody
@@ -32,14 +32,16 @@ extern "C" {
 /* end version */
 
 /* begin sizes: made by tests/tables from tables/numbers.ini */
-/* The length of a state area. */
+/* The length of the state area of a line of at most 96 objects. */
 #define SORTER_GATE_STATE_BYTES 1728
+/* The length of the state area of a line of more objects, at most 192; no area is longer. */
+#define SORTER_GATE_STATE_BYTES_WIDE 3360
 /* The least length of an answer area. */
 #define SORTER_GATE_ANSWER_BYTES 128
 /* The length of the longest line file that can be accepted; refuse a longer one before you call. */
-#define SORTER_GATE_LONGEST_LINE 1202
+#define SORTER_GATE_LONGEST_LINE 1773
 /* The length of the longest record that can be accepted; refuse a longer one before you call. */
-#define SORTER_GATE_LONGEST_RECORD 147
+#define SORTER_GATE_LONGEST_RECORD 155
 /* end sizes */
 
 /* What a record begins with, and what follows it; docs/CONTROLLER.md, 'Records', says how an item is written. */
@@ -70,7 +72,7 @@ enum sorter_gate_answer {
     SORTER_GATE_LEFT_OVER = 4,       /* line file: bytes are left over */
     SORTER_GATE_HARDWIRED_OWNER = 5, /* line file: a card has not just one kind 4 object, or kind 4 has no card */
     SORTER_GATE_HARDWIRED_VALUE = 6, /* line file: a hard-wired value names what it may not */
-    SORTER_GATE_STATE_LENGTH = 7,    /* the state area has another length */
+    SORTER_GATE_STATE_LENGTH = 7,    /* the state area has another length than the line needs */
     SORTER_GATE_ANSWER_LENGTH = 8,   /* the answer area is too short */
     SORTER_GATE_STATE_FORM = 9,      /* the state is not well formed */
     SORTER_GATE_RECORD = 10,         /* the record cannot be read to its last byte */
@@ -93,7 +95,7 @@ enum sorter_gate_answer {
  */
 /* begin kinds: made by tests/tables from tables/kinds.ini */
 enum sorter_gate_kind {
-    SORTER_GATE_DONE = 0,    /* the number is the length written */
+    SORTER_GATE_DONE = 0,    /* the number is the length: written, or of the state area */
     SORTER_GATE_REFUSED = 1, /* the number is the question that was answered with no */
     SORTER_GATE_SHORT = 2    /* the number is the length that is needed */
 };
@@ -107,16 +109,24 @@ enum sorter_gate_kind {
 uint32_t gate_load_check(const uint8_t *line, size_t line_len);
 
 /*
- * Makes the fresh state of a line in `state`: questions 1 to 6, then 7. At 0 the whole area is the fresh state,
- * whatever it held: all 0 but the hard-wired value numbers. At any other number the area is as it was.
+ * Tells how long the state area of a line has to be, which the count of its objects alone decides. The answer has a
+ * kind. Done: the number is the length, one of the two above. Refused: the number is the first of questions 1 to 6 that
+ * is answered with no. Changes nothing.
+ */
+uint64_t gate_state_bytes(const uint8_t *line, size_t line_len);
+
+/*
+ * Makes the fresh state of a line in `state`: questions 1 to 6, then 7, whether `state` has just the length that
+ * gate_state_bytes tells. At 0 the whole area is the fresh state, whatever it held: all 0 but the hard-wired value
+ * numbers. At any other number the area is as it was.
  */
 uint32_t gate_fresh(const uint8_t *line, size_t line_len, uint8_t *state, size_t state_len);
 
 /*
  * Judges one operation record and, at 0, carries it out: all questions, in the order of docs/QUESTIONS.md, each for the
- * whole record before the next. At 0 `state` is the state that follows; a read (codes 3 and 4) has put sixteen bytes
- * for each source at the start of `answer`, in order, and every other byte of `answer` is as it was. At any other
- * number both areas are as they were.
+ * whole record before the next; 7 is whether `state` has just the length that gate_state_bytes tells. At 0 `state` is
+ * the state that follows; a read (codes 3 and 4) has put sixteen bytes for each source at the start of `answer`, in
+ * order, and every other byte of `answer` is as it was. At any other number both areas are as they were.
  */
 uint32_t gate_operate(const uint8_t *line, size_t line_len, uint8_t *state, size_t state_len, const uint8_t *record,
                       size_t record_len, uint8_t *answer, size_t answer_len);

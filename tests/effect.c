@@ -1,14 +1,56 @@
 #include <string.h>
 
 #include "effect.h"
-#include "sorter_gate.h"
 
 // The state area: standings, drivers, devices, then a partition and sixteen bytes for each object.
 enum { DRIVERS_FROM = 64, DEVICES_FROM = 80, OBJECTS_FROM = 96 };
 enum { EXISTING = 1, DESTROYED = 2 };
 
+// A number in groups of seven bits, the lowest first.
+enum { GROUP = 7, MOST_BYTES = 3, MOST_NUMBER = 65535 };
+
+const uint8_t *number_at(const uint8_t *at, const uint8_t *end, unsigned *number) {
+    unsigned sum = 0;
+    for (unsigned i = 0; i < MOST_BYTES && at < end; i++, at++) {
+        sum += (*at % LONG_FROM) << GROUP * i;
+        if (*at < LONG_FROM) {
+            *number = sum;
+            return (i > 0 && *at == 0) || sum > MOST_NUMBER ? NULL : at + 1;
+        }
+    }
+    return NULL;
+}
+
+uint8_t *put_number(uint8_t *at, unsigned number) {
+    if (number >= LONG_FROM) {
+        *at++ = (uint8_t)(number % LONG_FROM + LONG_FROM);
+        number /= LONG_FROM;
+    }
+    *at++ = (uint8_t)number;
+    return at;
+}
+
+// Where an accepted line file has its count of values; the objects stand behind it.
+static const uint8_t *values_count(const uint8_t *line) {
+    return line + OBJECTS_AT + (line[OBJECTS_AT] < LONG_FROM ? 1 : 2);
+}
+
+unsigned objects_of(const uint8_t *line) {
+    unsigned objects = 0;
+    number_at(line + OBJECTS_AT, values_count(line), &objects);
+    return objects;
+}
+
+unsigned values_of(const uint8_t *line) {
+    return *values_count(line);
+}
+
 const uint8_t *object_in_line(const uint8_t *line, unsigned object) {
-    return line + 5 + 3 * (object - 1);
+    return values_count(line) + 1 + 3 * (object - 1);
+}
+
+size_t state_bytes_of(const uint8_t *line) {
+    return OBJECTS_FROM + (CONTENT + 1u) * (objects_of(line) <= MOST_SMALL ? MOST_SMALL : MOST_OBJECTS);
 }
 
 static int within(unsigned number, unsigned most) {
@@ -26,21 +68,25 @@ static int object_fits(const uint8_t *line, const uint8_t *declared) {
     return class == BY_DEVICE && within(kind, HARDCODED) && within(owner, line[DEVICES_AT]);
 }
 
-static int entry_fits(const uint8_t *line, const uint8_t *entry) {
-    if (!within(entry[0], line[OBJECTS_AT]) || !within(entry[1], BOTH) || entry[2] > line[VALUES_AT]) {
-        return 0;
+// Where the entry ends, if it fits; otherwise NULL. Only its object can have two bytes.
+static const uint8_t *entry_end(const uint8_t *line, const uint8_t *at, const uint8_t *end) {
+    unsigned object = 0;
+    at = number_at(at, end, &object);
+    if (!at || end - at < 2 || !within(object, objects_of(line)) || !within(at[0], BOTH) || at[1] > values_of(line)) {
+        return NULL;
     }
-    return entry[2] == 0 || (object_in_line(line, entry[0])[0] == TRANSFER && entry[1] != READ);
+    int stores = object_in_line(line, object)[0] == TRANSFER && at[0] != READ;
+    return at[1] == 0 || stores ? at + 2 : NULL;
 }
 
 static int values_fit(const uint8_t *line, const uint8_t *at, const uint8_t *end) {
-    for (unsigned value = 1; value <= line[VALUES_AT]; value++) {
-        if (at == end || *at > MOST_ENTRIES || end - at < 1 + 3 * *at) {
+    for (unsigned value = 1; value <= values_of(line); value++) {
+        if (at == end || *at > MOST_ENTRIES) {
             return 0;
         }
-        unsigned count = *at++;
-        for (; count > 0; count--, at += 3) {
-            if (!entry_fits(line, at)) {
+        for (unsigned count = *at++; count > 0; count--) {
+            at = entry_end(line, at, end);
+            if (!at) {
                 return 0;
             }
         }
@@ -48,56 +94,64 @@ static int values_fit(const uint8_t *line, const uint8_t *at, const uint8_t *end
     return at == end;
 }
 
+static int counts_fit(const uint8_t *line, size_t length) {
+    unsigned objects = 0;
+    const uint8_t *end = line + length;
+    const uint8_t *at = length > OBJECTS_AT ? number_at(line + OBJECTS_AT, end, &objects) : NULL;
+    return at && at < end && line[0] == 1 && line[DRIVERS_AT] <= MOST_OWNERS && line[DEVICES_AT] <= MOST_OWNERS &&
+           objects <= MOST_OBJECTS && *at <= MOST_VALUES;
+}
+
 int line_fits(const uint8_t *line, size_t length) {
-    if (length < 5 || line[0] != 1 || line[DRIVERS_AT] > MOST_OWNERS || line[DEVICES_AT] > MOST_OWNERS ||
-        line[OBJECTS_AT] > MOST_OBJECTS || line[VALUES_AT] > MOST_VALUES ||
-        length < 5u + 3u * line[OBJECTS_AT] + line[DEVICES_AT]) {
+    if (!counts_fit(line, length)) {
         return 0;
     }
-    for (unsigned object = 1; object <= line[OBJECTS_AT]; object++) {
+    const uint8_t *at = object_in_line(line, objects_of(line) + 1u);
+    if (length < (size_t)(at - line) + line[DEVICES_AT]) {
+        return 0;
+    }
+    for (unsigned object = 1; object <= objects_of(line); object++) {
         if (!object_fits(line, object_in_line(line, object))) {
             return 0;
         }
     }
-    const uint8_t *at = object_in_line(line, line[OBJECTS_AT] + 1u);
     for (unsigned device = 1; device <= line[DEVICES_AT]; device++) {
-        if (*at++ > line[VALUES_AT]) {
+        if (*at++ > values_of(line)) {
             return 0;
         }
     }
     return values_fit(line, at, line + length);
 }
 
-// The length of what a record lists: an item, a pair or an object; 0 if it does not fit.
-static size_t listed_length(const uint8_t *line, uint8_t code, const uint8_t *at, size_t left) {
-    if (left == 0 || !within(at[0], line[OBJECTS_AT])) {
-        return 0;
+// Where an item, a pair or an object that a record lists ends, if it fits; otherwise NULL.
+static const uint8_t *listed_end(const uint8_t *line, uint8_t code, const uint8_t *at, const uint8_t *end) {
+    unsigned object = 0, second = 0;
+    at = number_at(at, end, &object);
+    if (!at || !within(object, objects_of(line))) {
+        return NULL;
     }
     if (code == 9 || code == 12) {
-        return 1;
+        return at;
     }
     if (code == 3 || code == 4) {
-        return left >= 2 && at[1] <= line[OBJECTS_AT] ? 2 : 0;
+        at = number_at(at, end, &second);
+        return at && second <= objects_of(line) ? at : NULL;
     }
-    if (left >= 3 && at[1] == 0) {
-        return at[2] <= line[VALUES_AT] ? 3 : 0;
+    if (end - at >= 2 && at[0] == 0) {
+        return at[1] <= values_of(line) ? at + 2 : NULL;
     }
-    return left >= 2 + CONTENT && at[1] == 1 ? 2 + CONTENT : 0;
+    return end - at >= 1 + CONTENT && at[0] == 1 ? at + 1 + CONTENT : NULL;
 }
 
 static int list_fits(const uint8_t *line, const uint8_t *record, size_t length) {
-    size_t at = 3;
     if (length < 3 || !within(record[2], MOST_COUNT)) {
         return 0;
     }
-    for (unsigned i = 0; i < record[2]; i++) {
-        size_t listed = listed_length(line, record[0], record + at, length - at);
-        if (listed == 0) {
-            return 0;
-        }
-        at += listed;
+    const uint8_t *at = record + 3, *end = record + length;
+    for (unsigned i = 0; at && i < record[2]; i++) {
+        at = listed_end(line, record[0], at, end);
     }
-    return at == length;
+    return at == end;
 }
 
 int record_fits(const uint8_t *line, const uint8_t *record, size_t length) {
@@ -137,9 +191,9 @@ static uint8_t *content_of(uint8_t *state, unsigned object) {
 }
 
 void follow_fresh(const uint8_t *line, uint8_t *state) {
-    const uint8_t *hardcoded_values = object_in_line(line, line[OBJECTS_AT] + 1u);
-    memset(state, 0, SORTER_GATE_STATE_BYTES);
-    for (unsigned object = 1; object <= line[OBJECTS_AT]; object++) {
+    const uint8_t *hardcoded_values = object_in_line(line, objects_of(line) + 1u);
+    memset(state, 0, state_bytes_of(line));
+    for (unsigned object = 1; object <= objects_of(line); object++) {
         const uint8_t *declared = object_in_line(line, object);
         if (declared[0] == HARDCODED) {
             content_of(state, object)[0] = hardcoded_values[declared[2] - 1];
@@ -157,7 +211,7 @@ static void move_object(const uint8_t *line, uint8_t *state, unsigned object, ui
 
 static void move_owner(const uint8_t *line, uint8_t *state, uint8_t class, uint8_t owner, uint8_t partition) {
     state[(class == BY_DRIVER ? DRIVERS_FROM : DEVICES_FROM) + owner - 1] = partition;
-    for (unsigned object = 1; object <= line[OBJECTS_AT]; object++) {
+    for (unsigned object = 1; object <= objects_of(line); object++) {
         const uint8_t *declared = object_in_line(line, object);
         if (declared[1] == class && declared[2] == owner) {
             move_object(line, state, object, partition);
@@ -165,36 +219,46 @@ static void move_owner(const uint8_t *line, uint8_t *state, uint8_t class, uint8
     }
 }
 
+// The object that stands next in a record that fits; the place moves behind it.
+static unsigned next_object(const uint8_t **at) {
+    unsigned object = 0;
+    *at = number_at(*at, *at + MOST_BYTES, &object);
+    return object;
+}
+
 static void move_listed(const uint8_t *line, uint8_t *state, const uint8_t *record, uint8_t partition) {
+    const uint8_t *at = record + 3;
     for (unsigned i = 0; i < record[2]; i++) {
-        move_object(line, state, record[3 + i], partition);
+        move_object(line, state, next_object(&at), partition);
     }
 }
 
 static void write_items(uint8_t *state, const uint8_t *record) {
-    const uint8_t *item = record + 3;
+    const uint8_t *at = record + 3;
     for (unsigned i = 0; i < record[2]; i++) {
-        uint8_t *content = content_of(state, item[0]);
-        if (item[1] == 0) {
+        uint8_t *content = content_of(state, next_object(&at));
+        if (at[0] == 0) {
             memset(content, 0, CONTENT);
-            content[0] = item[2];
-            item += 3;
+            content[0] = at[1];
+            at += 2;
         } else {
-            memcpy(content, item + 2, CONTENT);
-            item += 2 + CONTENT;
+            memcpy(content, at + 1, CONTENT);
+            at += 1 + CONTENT;
         }
     }
 }
 
 // All sources first, then all destinations.
 static void copy_pairs(uint8_t *state, const uint8_t *record, uint8_t *answer) {
-    const uint8_t *pairs = record + 3;
+    unsigned destinations[MOST_COUNT];
+    const uint8_t *at = record + 3;
     for (unsigned i = 0; i < record[2]; i++) {
-        memcpy(answer + CONTENT * i, content_of(state, pairs[2 * i]), CONTENT);
+        memcpy(answer + CONTENT * i, content_of(state, next_object(&at)), CONTENT);
+        destinations[i] = next_object(&at);
     }
     for (unsigned i = 0; i < record[2]; i++) {
-        if (pairs[2 * i + 1]) {
-            memcpy(content_of(state, pairs[2 * i + 1]), answer + CONTENT * i, CONTENT);
+        if (destinations[i]) {
+            memcpy(content_of(state, destinations[i]), answer + CONTENT * i, CONTENT);
         }
     }
 }

@@ -6,8 +6,10 @@
 #include <stddef.h>
 #include <stdint.h>
 
-// The counts of an accepted line file, all of whose numbers are one byte long.
-enum { DRIVERS_AT = 1, DEVICES_AT = 2, OBJECTS_AT = 3, VALUES_AT = 4 };
+// The first counts of an accepted line file; the objects' has two bytes from LONG_FROM on, as every number has, and
+// that of values stands behind it.
+enum { DRIVERS_AT = 1, DEVICES_AT = 2, OBJECTS_AT = 3 };
+enum { LONG_FROM = 128 };
 
 // Kinds, owner classes and modes.
 enum { TRANSFER = 1, HARDCODED = 4 };
@@ -15,10 +17,26 @@ enum { EXTERNAL = 0, BY_DRIVER = 1, BY_DEVICE = 2 };
 enum { READ = 1, BOTH = 3 };
 
 // The limits of a line file and of a record, and the bytes of an object's contents.
-enum { MOST_OWNERS = 16, MOST_OBJECTS = 96, MOST_VALUES = 47, MOST_ENTRIES = 6, MOST_PARTITION = 63, MOST_COUNT = 8 };
+enum { MOST_OWNERS = 16, MOST_OBJECTS = 192, MOST_VALUES = 47, MOST_ENTRIES = 6, MOST_PARTITION = 63, MOST_COUNT = 8 };
 enum { CONTENT = 16 };
 
-// The three numbers of an object in an accepted line file: kind, owner class, owner number.
+// A line of at most so many objects is a small one, whose state area has as many records; a wide one's has a record for
+// each object that there may be.
+enum { MOST_SMALL = 96 };
+
+// The number at a place before the end: where the next one stands; NULL if questions 1 and 2 refuse it.
+const uint8_t *number_at(const uint8_t *at, const uint8_t *end, unsigned *number);
+
+// Puts a number of at most two bytes down; where the next one stands.
+uint8_t *put_number(uint8_t *at, unsigned number);
+
+// The counts of objects and values of an accepted line file, and the length of its state area.
+unsigned objects_of(const uint8_t *line);
+unsigned values_of(const uint8_t *line);
+size_t state_bytes_of(const uint8_t *line);
+
+// The three numbers of an object in an accepted line file: kind, owner class, owner number. Behind the last object's
+// are the devices' hardcoded value numbers.
 const uint8_t *object_in_line(const uint8_t *line, unsigned object);
 
 // Whether a line meets questions 1 to 4, and the objects of kind 4 are the devices'.

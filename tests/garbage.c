@@ -1,9 +1,10 @@
-// Throws random and mutated inputs of every length at the four functions, twice: in the first pass each area ends where
+// Throws random and mutated inputs of every length at the five functions, twice: in the first pass each area ends where
 // a forbidden page begins, in the second each begins where one ends, and line and record cannot be written. So a byte
 // that is read or written beside an area is seen. A refusal leaves state and answer area as they were, an accepted call
-// leaves what document 01 says; the same inputs get the same answers in both passes; and in each pass every number is
-// answered, every code is accepted and every area is empty at least once. (tests/rewriting.c holds the function that
-// writes lines to what it must answer and leave.)
+// leaves what document 01 says; the same inputs get the same answers in both passes; and in each pass, on small lines
+// and on wide ones, every number is answered, every code is accepted and an area of the other lines' length is refused,
+// and every area is empty at least once. Then in each pass what tests/rooms.c tries out one by one.
+// (tests/rewriting.c and tests/state_bytes.c hold the functions whose answers have a kind to what they must answer.)
 //   garbage TIMES SEED   makes TIMES calls in each pass; prints how often each number came, and each code was accepted;
 //                        to be called in the repository's root
 #include <stdio.h>
@@ -14,7 +15,9 @@
 #include "effect.h"
 #include "inputs.h"
 #include "rewriting.h"
+#include "rooms.h"
 #include "sorter_gate.h"
+#include "state_bytes.h"
 
 // A session is a fresh state and the calls after it, on one sound line.
 enum { NUMBERS = 21, CODES = 13, SESSION = 256 };
@@ -27,9 +30,15 @@ static const char *const CALL_TEXTS[CALLS] = {"gate_load_check", "gate_fresh", "
 static const uint32_t LAST_NUMBERS[CALLS] = {6, 7, 20};
 static const int TAKES[CALLS] = {LINE + 1, STATE + 1, ANSWER + 1};
 
+// What came on small lines, and on wide ones.
+enum { SMALL, WIDE, SIZES };
+static const char *const SIZE_TEXTS[SIZES] = {"small", "wide"};
+
 struct tally {
-    unsigned long numbers[NUMBERS], codes[CODES], empty[CALLS][AREAS];
+    unsigned long numbers[SIZES][NUMBERS], codes[SIZES][CODES], other_length[SIZES], long_named, empty[CALLS][AREAS];
     struct rewritings rewritings;
+    struct state_lengths state_lengths;
+    struct rooms rooms;
 };
 
 // The answers of the first pass, one after the other.
@@ -41,6 +50,15 @@ static size_t sound_length, step;
 
 // The pages of state and answer area as they must be after the call, the bytes around the areas too.
 static uint8_t expected[AREAS][PAGE];
+
+static int size_of_sound(void) {
+    return objects_of(sound) > MOST_SMALL ? WIDE : SMALL;
+}
+
+// The length of the state areas of the other lines than the session's.
+static size_t other_length(void) {
+    return size_of_sound() == WIDE ? SORTER_GATE_STATE_BYTES : SORTER_GATE_STATE_BYTES_WIDE;
+}
 
 static uint8_t *expected_start(enum area_name name) {
     return expected[name] + (own_start(name) - areas[name].own);
@@ -79,13 +97,19 @@ static void compare(enum area_name name, uint32_t number) {
              number, area_text(name), found - own_start(name));
 }
 
+// Whether an accepted record of codes 9 or 12 has a number of two bytes: those of its objects are all that can.
+static int names_long(const uint8_t *record, size_t length) {
+    int lists = record[0] == SORTER_GATE_CODE_ACTIVATE_OBJECTS || record[0] == SORTER_GATE_CODE_DEACTIVATE_OBJECTS;
+    return lists && length > 3u + record[2];
+}
+
 // Does to the expected pages what the accepted call has to do to the areas; ends if it should not have been accepted.
 static void follow(enum call call, struct tally *tally) {
     const uint8_t *line = own_start(LINE), *record = own_start(RECORD);
     if (!line_fits(line, areas[LINE].length)) {
         complain("accepted (0) a line that it must refuse");
     }
-    if ((call != LOAD_CHECK && areas[STATE].length != SORTER_GATE_STATE_BYTES) ||
+    if ((call != LOAD_CHECK && areas[STATE].length != state_bytes_of(line)) ||
         (call == OPERATE && areas[ANSWER].length < SORTER_GATE_ANSWER_BYTES)) {
         complain("accepted (0) a length that it must refuse");
     }
@@ -97,7 +121,8 @@ static void follow(enum call call, struct tally *tally) {
             complain("accepted (0) a record that it must refuse");
         }
         follow_operation(line, record, expected_start(STATE), expected_start(ANSWER));
-        tally->codes[record[0]]++;
+        tally->codes[size_of_sound()][record[0]]++;
+        tally->long_named += names_long(record, areas[RECORD].length);
     }
 }
 
@@ -129,7 +154,8 @@ static uint32_t checked_call(enum call call, struct tally *tally) {
     }
     compare(STATE, number);
     compare(ANSWER, number);
-    tally->numbers[number]++;
+    tally->numbers[size_of_sound()][number]++;
+    tally->other_length[size_of_sound()] += number == SORTER_GATE_STATE_LENGTH && areas[STATE].length == other_length();
     return number;
 }
 
@@ -142,11 +168,16 @@ static size_t some_length(size_t wanted) {
 static void begin_session(struct tally *tally) {
     sound_length = sound_line(sound);
     put(LINE, sound, sound_length);
-    areas[STATE].length = SORTER_GATE_STATE_BYTES;
+    areas[STATE].length = state_bytes_of(sound);
     uint32_t number = checked_call(FRESH, tally);
     if (number) {
         complain("refused a fresh state of a sound line by %u", number);
     }
+}
+
+// The length that the line needs, mostly; otherwise that of the other lines, or any.
+static size_t some_state_length(void) {
+    return below(60) ? some_length(state_bytes_of(sound)) : other_length();
 }
 
 // One call on inputs that may all be spoilt, the first ones of a state mostly to bring things in. A fresh state is made
@@ -156,14 +187,18 @@ static void go_on(struct tally *tally) {
     size_t kind = below(64);
     enum call call = kind < 2 ? LOAD_CHECK : kind < 4 ? FRESH : OPERATE;
     put(LINE, bytes, any_line(sound, sound_length, bytes));
-    if (kind >= 56) {
+    if (kind >= 54) {
         spoil_line();
-        checked_rewriting(checked_call(LOAD_CHECK, tally), &tally->rewritings);
+        uint32_t loaded = checked_call(LOAD_CHECK, tally);
+        checked_state_bytes(loaded, &tally->state_lengths);
+        if (kind >= 56) {
+            checked_rewriting(loaded, &tally->rewritings);
+        }
         return;
     }
     size_t record_length = below(8) ? opening_record(sound, step, bytes) : 0;
     put(RECORD, bytes, record_length ? record_length : any_record(sound, bytes));
-    areas[STATE].length = call == FRESH && below(4) ? below(2) * below(PAGE) : some_length(SORTER_GATE_STATE_BYTES);
+    areas[STATE].length = call == FRESH && below(4) ? below(2) * below(PAGE) : some_state_length();
     areas[ANSWER].length = some_length(SORTER_GATE_ANSWER_BYTES + below(40));
     size_t place = below(areas[STATE].length);
     int spoil = call != LOAD_CHECK && areas[STATE].length && below(50) == 0;
@@ -176,17 +211,30 @@ static void go_on(struct tally *tally) {
     }
 }
 
-static void demand(const struct tally *tally) {
-    trial.call = "the library";
+// What must have come on the lines of a size.
+static void demand_of(const struct tally *tally, int size) {
     for (unsigned code = 1; code < CODES; code++) {
-        if (!tally->codes[code]) {
-            complain("never accepted code %u", code);
+        if (!tally->codes[size][code]) {
+            complain("never accepted code %u on %s lines", code, SIZE_TEXTS[size]);
         }
     }
     for (unsigned number = 0; number < NUMBERS; number++) {
-        if (!tally->numbers[number]) {
-            complain("never answered %u", number);
+        if (!tally->numbers[size][number]) {
+            complain("never answered %u on %s lines", number, SIZE_TEXTS[size]);
         }
+    }
+    if (!tally->other_length[size]) {
+        complain("never got an area of the other length on %s lines", SIZE_TEXTS[size]);
+    }
+}
+
+static void demand(const struct tally *tally) {
+    trial.call = "the library";
+    for (int size = SMALL; size < SIZES; size++) {
+        demand_of(tally, size);
+    }
+    if (!tally->long_named) {
+        complain("never accepted a record that names an object in two bytes");
     }
     for (enum call call = LOAD_CHECK; call < CALLS; call++) {
         for (int name = LINE; name < TAKES[call]; name++) {
@@ -196,6 +244,7 @@ static void demand(const struct tally *tally) {
         }
     }
     demand_rewritings(&tally->rewritings);
+    demand_state_bytes(&tally->state_lengths);
 }
 
 // The same inputs in each pass.
@@ -216,6 +265,12 @@ static void run_pass(enum place place, unsigned long times, uint64_t seed, struc
         }
     }
     demand(tally);
+    checked_rooms(&tally->rooms);
+}
+
+// A number for small lines, and one for wide ones.
+static void print_row(const char *what, int which, const unsigned long *small, const unsigned long *wide) {
+    printf("%s%d %lu, of wide lines %lu\n", what, which, small[which] + wide[which], wide[which]);
 }
 
 int main(int argc, char **argv) {
@@ -236,12 +291,15 @@ int main(int argc, char **argv) {
         run_pass(place, times, strtoull(argv[2], NULL, 10), &tallies[place]);
     }
     free(first_answers);
+    const struct tally *first = &tallies[ENDS_AT_BORDER];
     for (int number = 0; number < NUMBERS; number++) {
-        printf("%d %lu\n", number, tallies[0].numbers[number]);
+        print_row("", number, first->numbers[SMALL], first->numbers[WIDE]);
     }
     for (int code = 1; code < CODES; code++) {
-        printf("code %d accepted %lu\n", code, tallies[0].codes[code]);
+        print_row("accepted of code ", code, first->codes[SMALL], first->codes[WIDE]);
     }
-    print_rewritings(&tallies[0].rewritings);
+    print_rewritings(&first->rewritings);
+    print_state_bytes(&first->state_lengths);
+    print_rooms(&first->rooms);
     return 0;
 }

@@ -1,7 +1,7 @@
 #!/usr/bin/env bash
 # The library from the host's side: the C controllers; a million random and mutated inputs, each with its areas against
-# forbidden pages, once at their ends and once at their beginnings; and the same test over libraries with a fault, each
-# of which it must tell. (`make check` has the Rust binding.)
+# forbidden pages, once at their ends and once at their beginnings; areas of every length, and line files cut anywhere;
+# and the same test over libraries with a fault, each of which it must tell. (`make check` has the Rust binding.)
 #   host.sh [TIMES [SEED]]
 set -euo pipefail
 cd "$(dirname "$0")/.."
@@ -12,7 +12,7 @@ trap 'rm -rf "$out"' EXIT
 # The sanitizers watch the test's own code alone: the library is not built for them.
 flags=(-std=c11 -O2 -Wall -Wextra -Werror -Iinclude -g -fsanitize=address,undefined)
 parts=()
-for name in garbage areas effect inputs rewriting faulty; do
+for name in garbage areas effect inputs rewriting state_bytes rooms faulty; do
     gcc "${flags[@]}" -c -o "$out/$name.o" "tests/$name.c"
     [ $name = faulty ] || parts+=("$out/$name.o")
 done
@@ -20,8 +20,8 @@ gcc "${flags[@]}" -o "$out/garbage" "${parts[@]}" target/staticlib/libgate.a
 "$out/garbage" "${1:-1000000}" "${2:-1}"
 
 gcc "${flags[@]}" -o "$out/faulty" "${parts[@]}" "$out/faulty.o" target/staticlib/libgate.a \
-    -Wl,--wrap=gate_load_check,--wrap=gate_fresh,--wrap=gate_operate,--wrap=gate_rewrite
-few=20000
+    -Wl,--wrap=gate_load_check,--wrap=gate_state_bytes,--wrap=gate_fresh,--wrap=gate_operate,--wrap=gate_rewrite
+few=100000
 seen=0
 
 # A fault, and the message that the test must end with.
@@ -88,6 +88,29 @@ wrong_rewriting() {
     must_tell "always $((3 << 32))" "gate_rewrite answered the kind 3, which there is not"
 }
 
+# What gate_state_bytes may not answer.
+wrong_state_bytes() {
+    must_tell "one-off" "gate_state_bytes told 1728 bytes for a line of 97 objects, which needs 3360"
+    must_tell "told-question" "gate_state_bytes refused by [2-7] a line to which a load check answers [1-6]"
+    must_tell "told-let-by" "gate_state_bytes did not refuse a line that a load check refuses by [1-6]"
+    # A constant: each of the two lengths, another one, refused by 3 and by none, and kinds that it has not.
+    local objects="bytes for a line of [0-9]+ objects, which needs"
+    must_tell "told 1728" "gate_state_bytes (told 1728 $objects 3360|did not .*)"
+    must_tell "told 3360" "gate_state_bytes (told 3360 $objects 1728|did not .*)"
+    must_tell "told 1727" "gate_state_bytes (told 1727 $objects [0-9]+|did not .*)"
+    must_tell "told $((1 << 32 | 3))" "gate_state_bytes refused by 3 a line to which a load check answers [^3]"
+    must_tell "told $((1 << 32))" "gate_state_bytes refused by 0 a line to which a load check answers [0-9]"
+    must_tell "told $((2 << 32 | 1728))" "gate_state_bytes answered the kind 2, which is none of its kinds"
+}
+
+# What concerns the length of a state area, and the objects whose numbers have two bytes.
+wrong_rooms() {
+    must_tell "small-only" "gate_fresh refused a fresh state of a sound line by 7"
+    must_tell "either" "gate_(fresh|operate) accepted \(0\) a length that it must refuse"
+    must_tell "last-record" "gate_operate answered 10, and not 9, for a byte of an absent object at place [0-9]+"
+    must_tell "modulo" "gate_operate accepted \(0\), and did not leave the state as document 01 says at place [0-9]+"
+}
+
 # Without a fault the few inputs are enough to pass.
 GATE_FAULT=none "$out/faulty" $few 1 > "$out/rows"
 for area in line state record answer; do
@@ -96,9 +119,10 @@ done
 stray_reads line load_check
 stray_reads line fresh
 stray_reads state fresh
+stray_reads line state_bytes
 stray_reads line rewrite
 stray_reads out rewrite
-for call in load_check fresh operate rewrite; do
+for call in load_check state_bytes fresh operate rewrite; do
     stray_stores line $call
 done
 stray_stores record operate
@@ -107,6 +131,8 @@ stray_changes state operate
 stray_changes answer operate
 stray_rewriting
 wrong_rewriting
+wrong_state_bytes
+wrong_rooms
 must_tell "constant 0" "gate_fresh accepted \(0\), and did not leave the state as document 01 says at place [0-9]+"
 must_tell "constant 7" "gate_fresh refused a fresh state of a sound line by 7"
 must_tell "constant 10" "gate_fresh answered 10, which is none of its numbers"
@@ -119,9 +145,9 @@ must_tell "accept 8" "gate_operate accepted \(0\) a length that it must refuse"
 must_tell "accept 10" "gate_operate accepted \(0\) a record that it must refuse"
 must_tell "accept 11" "gate_operate accepted \(0\) a record that it must refuse"
 must_tell "accept 19" "gate_operate accepted \(0\), and did not leave the state as document 01 says at place [0-9]+"
-must_tell "never 1" "the library never answered 1"
-must_tell "never 20" "the library never answered 20"
-must_tell "refuse 1" "the library never accepted code 1"
-must_tell "refuse 12" "the library never accepted code 12"
+must_tell "never 1" "the library never answered 1 on small lines"
+must_tell "never 20" "the library never answered 20 on small lines"
+must_tell "refuse 1" "the library never accepted code 1 on small lines"
+must_tell "refuse 12" "the library never accepted code 12 on small lines"
 must_tell "place" "gate_operate answered 10, and in the pass before [0-9]+"
 echo "host: $seen faults put into the library, each told by the test"

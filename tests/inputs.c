@@ -6,8 +6,9 @@
 #include "effect.h"
 #include "inputs.h"
 
-// Document 01's file L, read where the repository has it.
+// Document 01's file L, read where the repository has it: how many objects it has, and where its groups begin.
 static uint8_t LINE_L[45];
+enum { OBJECTS_L = 6, FIRST_L = 5, DEVICES_L = FIRST_L + 3 * OBJECTS_L, VALUES_L = DEVICES_L + 2 };
 
 void read_line_l(void) {
     if (slurp("crates/office/data/line.bin", LINE_L, sizeof LINE_L) != sizeof LINE_L) {
@@ -77,10 +78,45 @@ static size_t mutate(uint8_t *to, size_t n, size_t room) {
     return n;
 }
 
+// Edition and counts; the objects begin behind them.
+static uint8_t *put_counts(uint8_t *to, unsigned drivers, unsigned devices, unsigned objects, unsigned values) {
+    to[0] = 1;
+    to[DRIVERS_AT] = (uint8_t)drivers;
+    to[DEVICES_AT] = (uint8_t)devices;
+    return put_number(put_number(to + OBJECTS_AT, objects), values);
+}
+
+// File L with so many objects: those of L are the last ones, and what stands before them is external data.
+static size_t lifted_l(unsigned objects, uint8_t *to) {
+    uint8_t *at = put_counts(to, LINE_L[DRIVERS_AT], LINE_L[DEVICES_AT], objects, values_of(LINE_L));
+    unsigned shift = objects - OBJECTS_L;
+    for (unsigned object = 1; object <= shift; object++) {
+        *at++ = HARDCODED - 1;
+        *at++ = EXTERNAL;
+        *at++ = 0;
+    }
+    memcpy(at, LINE_L + FIRST_L, VALUES_L - FIRST_L);
+    at += VALUES_L - FIRST_L;
+    // Each of its values has one entry: count, object, mode, put value.
+    for (const uint8_t *value = LINE_L + VALUES_L; value < LINE_L + sizeof LINE_L; value += 4) {
+        *at++ = value[0];
+        at = put_number(at, value[1] + shift);
+        *at++ = value[2];
+        *at++ = value[3];
+    }
+    return (size_t)(at - to);
+}
+
+// Whether a line is L, or L among more objects.
+static int is_lifted_l(const uint8_t *line) {
+    static uint8_t lifted[MOST_LINE];
+    unsigned objects = objects_of(line);
+    return (objects == OBJECTS_L || objects > MOST_SMALL) && memcmp(lifted, line, lifted_l(objects, lifted)) == 0;
+}
+
 // The first objects are the devices' hardcoded descriptors; the others are of any kind and owner that there are.
-static size_t put_objects(const uint8_t *line, uint8_t *to) {
-    uint8_t *at = to;
-    for (size_t object = 1; object <= line[OBJECTS_AT]; object++) {
+static uint8_t *put_objects(const uint8_t *line, uint8_t *at) {
+    for (size_t object = 1; object <= objects_of(line); object++) {
         uint8_t class = (uint8_t)below(3), owner = 0;
         if (object <= line[DEVICES_AT]) {
             class = BY_DEVICE;
@@ -93,38 +129,45 @@ static size_t put_objects(const uint8_t *line, uint8_t *to) {
         *at++ = class;
         *at++ = class == EXTERNAL ? 0 : owner;
     }
-    return (size_t)(at - to);
+    return at;
 }
 
-// An entry of a value; few name hardcoded descriptors. That of a device's hardcoded value reads, and names an object
-// that the device owns.
-static size_t put_entry(const uint8_t *line, size_t value, uint8_t *to) {
-    size_t object = 1 + below(line[OBJECTS_AT]);
-    const uint8_t *declared = object_in_line(line, (unsigned)object);
+// An entry of a value, where one comes about; few name hardcoded descriptors. That of a device's hardcoded value reads,
+// and names an object that the device owns.
+static uint8_t *put_entry(const uint8_t *line, size_t value, uint8_t *at) {
+    unsigned object = 1 + (unsigned)below(objects_of(line));
+    const uint8_t *declared = object_in_line(line, object);
     int hardcoded = value <= line[DEVICES_AT];
     if ((declared[0] == HARDCODED && (hardcoded || below(64))) ||
         (hardcoded && (declared[1] != BY_DEVICE || declared[2] != value))) {
-        return 0;
+        return at;
     }
     uint8_t mode = hardcoded ? READ : (uint8_t)(1 + below(3));
-    to[0] = (uint8_t)object;
-    to[1] = mode;
-    to[2] = declared[0] == TRANSFER && mode != READ ? (uint8_t)below(line[VALUES_AT] + 1u) : 0;
-    return 3;
+    at = put_number(at, object);
+    *at++ = mode;
+    *at++ = declared[0] == TRANSFER && mode != READ ? (uint8_t)below(values_of(line) + 1u) : 0;
+    return at;
 }
 
-static size_t put_values(const uint8_t *line, uint8_t *to) {
-    uint8_t *at = to;
-    for (size_t value = 1; value <= line[VALUES_AT]; value++) {
+static uint8_t *put_values(const uint8_t *line, uint8_t *at) {
+    for (size_t value = 1; value <= values_of(line); value++) {
         uint8_t *count = at++;
         *count = 0;
-        for (size_t tries = line[OBJECTS_AT] ? below(80) : 0; tries > 0 && *count < MOST_ENTRIES; tries--) {
-            size_t length = put_entry(line, value, at);
-            at += length;
-            *count += length > 0;
+        for (size_t tries = objects_of(line) ? below(80) : 0; tries > 0 && *count < MOST_ENTRIES; tries--) {
+            uint8_t *end = put_entry(line, value, at);
+            *count += end > at;
+            at = end;
         }
     }
-    return (size_t)(at - to);
+    return at;
+}
+
+// A number of objects that a wide line has: the ends of what there may be, those where the count gets two bytes, or
+// any.
+static unsigned wide_count(void) {
+    static const uint8_t counts[] = {MOST_SMALL + 1, LONG_FROM - 1, LONG_FROM, MOST_OBJECTS - 1, MOST_OBJECTS};
+    size_t kind = below(sizeof counts + 1);
+    return kind < sizeof counts ? counts[kind] : MOST_SMALL + 1 + (unsigned)below(MOST_OBJECTS - MOST_SMALL);
 }
 
 size_t sound_line(uint8_t *to) {
@@ -133,18 +176,21 @@ size_t sound_line(uint8_t *to) {
         memcpy(to, LINE_L, sizeof LINE_L);
         return sizeof LINE_L;
     }
-    int full = below(4) == 0;
-    to[0] = 1;
-    to[DRIVERS_AT] = (uint8_t)(full ? MOST_OWNERS : below(4));
-    to[DEVICES_AT] = (uint8_t)(full ? MOST_OWNERS : below(4));
-    to[OBJECTS_AT] = (uint8_t)(full ? MOST_OBJECTS : to[DEVICES_AT] + below(8));
-    to[VALUES_AT] = (uint8_t)(full ? MOST_VALUES : below(7));
-    size_t n = 5;
-    n += put_objects(to, to + n);
-    for (size_t device = 1; device <= to[DEVICES_AT]; device++) {
-        to[n++] = device <= to[VALUES_AT] ? (uint8_t)device : 0;
+    size_t size = below(4);
+    int full = size == 0, wide = size == 1;
+    if (wide && below(2)) {
+        return lifted_l(wide_count(), to);
     }
-    return n + put_values(to, to + n);
+    // Half of the wide lines have few drivers and devices, so that a session gets to bring all in.
+    int many = full || (wide && below(2));
+    unsigned drivers = many ? MOST_OWNERS : (unsigned)below(4), devices = many ? MOST_OWNERS : (unsigned)below(4);
+    unsigned objects = full ? MOST_SMALL : wide ? wide_count() : devices + (unsigned)below(8);
+    unsigned values = full || wide ? MOST_VALUES : (unsigned)below(7);
+    uint8_t *at = put_objects(to, put_counts(to, drivers, devices, objects, values));
+    for (unsigned device = 1; device <= devices; device++) {
+        *at++ = device <= values ? (uint8_t)device : 0;
+    }
+    return (size_t)(put_values(to, at) - to);
 }
 
 size_t any_line(const uint8_t *sound, size_t length, uint8_t *to) {
@@ -158,54 +204,70 @@ size_t any_line(const uint8_t *sound, size_t length, uint8_t *to) {
     if (kind == 1) {
         to[below(length)] = (uint8_t)below(6);
     }
-    return kind == 2 ? mutate(to, length, MOST_LINE) : length;
+    return kind == 2 ? mutate(to, length, MOST_LINE) : kind == 3 ? below(length) : length;
 }
 
 // A number from 1 to `most`, and now and then one that may be beyond.
-static uint8_t some(size_t most) {
-    return (uint8_t)(below(32) ? 1 + below(most) : below(100));
+static unsigned some(size_t most) {
+    return (unsigned)(below(32) ? 1 + below(most) : below(2 * most + 100));
+}
+
+static int is_external(const uint8_t *line, unsigned object) {
+    return object >= 1 && object <= objects_of(line) && object_in_line(line, object)[1] == EXTERNAL;
 }
 
 // An object, and for the codes that list external ones nearly always such a one, if there is any.
-static uint8_t some_object(const uint8_t *line, int external) {
-    uint8_t object = some(line[OBJECTS_AT]);
-    for (int tries = 0; external && tries < 16; tries++) {
-        if (object >= 1 && object <= line[OBJECTS_AT] && object_in_line(line, object)[1] == EXTERNAL) {
-            break;
-        }
-        object = some(line[OBJECTS_AT]);
+static unsigned some_object(const uint8_t *line, int external) {
+    unsigned object = some(objects_of(line));
+    for (int tries = 0; external && tries < 16 && !is_external(line, object); tries++) {
+        object = some(objects_of(line));
     }
     return object;
 }
 
-static size_t put_item(const uint8_t *line, uint8_t *to) {
-    uint8_t object = some_object(line, 0);
-    int known = object >= 1 && object <= line[OBJECTS_AT];
+static uint8_t *put_item(const uint8_t *line, uint8_t *at) {
+    unsigned object = some_object(line, 0);
+    int known = object >= 1 && object <= objects_of(line);
     int form = known && object_in_line(line, object)[0] == TRANSFER ? 0 : 1;
-    to[0] = object;
-    to[1] = (uint8_t)(below(32) ? form : 1 - form);
-    if (to[1] == 0) {
-        to[2] = below(32) ? (uint8_t)below(line[VALUES_AT] + 1u) : some(MOST_VALUES);
-        return 3;
+    at = put_number(at, object);
+    *at = (uint8_t)(below(32) ? form : 1 - form);
+    if (*at++ == 0) {
+        return put_number(at, below(32) ? (unsigned)below(values_of(line) + 1u) : some(MOST_VALUES));
     }
-    random_bytes(to + 2, CONTENT);
-    return 2 + CONTENT;
+    random_bytes(at, CONTENT);
+    return at + CONTENT;
 }
 
-static size_t put_list(const uint8_t *line, uint8_t code, uint8_t *to) {
-    size_t n = 1, count = below(8) ? 1 + below(2) : 1 + below(MOST_COUNT);
-    to[0] = (uint8_t)count;
+static uint8_t *put_list(const uint8_t *line, uint8_t code, uint8_t *at) {
+    size_t count = below(8) ? 1 + below(2) : 1 + below(MOST_COUNT);
+    *at++ = (uint8_t)count;
     for (size_t i = 0; i < count; i++) {
         if (code <= 2) {
-            n += put_item(line, to + n);
+            at = put_item(line, at);
         } else {
-            to[n++] = some_object(line, code >= 5);
+            at = put_number(at, some_object(line, code >= 5));
             if (code <= 4) {
-                to[n++] = below(2) ? some_object(line, 0) : 0;
+                at = put_number(at, below(2) ? some_object(line, 0) : 0);
             }
         }
     }
-    return n;
+    return at;
+}
+
+// The external ones of so many objects, from the last one on, into a partition.
+static size_t put_externals(const uint8_t *line, uint8_t partition, size_t step, uint8_t *to) {
+    uint8_t *at = to + 3;
+    to[0] = 9;
+    to[1] = partition;
+    to[2] = 0;
+    for (size_t i = MOST_COUNT * step; i < MOST_COUNT * (step + 1) && i < objects_of(line); i++) {
+        unsigned object = objects_of(line) - (unsigned)i;
+        if (is_external(line, object)) {
+            at = put_number(at, object);
+            to[2]++;
+        }
+    }
+    return to[2] ? (size_t)(at - to) : 0;
 }
 
 size_t opening_record(const uint8_t *sound, size_t step, uint8_t *to) {
@@ -223,15 +285,7 @@ size_t opening_record(const uint8_t *sound, size_t step, uint8_t *to) {
         to[2] = partition;
         return 3;
     }
-    step -= drivers + devices;
-    if (step >= sound[OBJECTS_AT] || object_in_line(sound, (unsigned)step + 1)[1] != EXTERNAL) {
-        return 0;
-    }
-    to[0] = 9;
-    to[1] = partition;
-    to[2] = 1;
-    to[3] = (uint8_t)(1 + step);
-    return 4;
+    return put_externals(sound, partition, step - drivers - devices, to);
 }
 
 // A record whose numbers nearly all exist, often one that stores or reads; few partitions, so that things meet in one.
@@ -239,15 +293,36 @@ static size_t random_record(const uint8_t *line, uint8_t *to) {
     uint8_t code = (uint8_t)(below(2) ? 1 + below(12) : 1 + below(4));
     int by_partition = code == 5 || code == 6 || code == 9 || code == 12;
     int by_driver = code == 1 || code == 3 || code == 7 || code == 10;
-    size_t n = 2;
     to[0] = code;
-    to[1] = some(by_partition ? 3 : line[by_driver ? DRIVERS_AT : DEVICES_AT]);
+    uint8_t *at = put_number(to + 1, some(by_partition ? 3 : line[by_driver ? DRIVERS_AT : DEVICES_AT]));
     if (code == 7 || code == 8) {
-        to[n++] = some(2);
+        at = put_number(at, some(2));
     } else if (code <= 4 || code == 9 || code == 12) {
-        n += put_list(line, code, to + n);
+        at = put_list(line, code, at);
     }
-    return n;
+    return (size_t)(at - to);
+}
+
+// A record of those for L, for one whose objects have larger numbers by `shift`; 0 as a destination stays.
+static size_t lifted_record(const uint8_t *listed, unsigned shift, uint8_t *to) {
+    const uint8_t *from = listed + 1, *end = from + listed[0];
+    uint8_t code = from[0], *at = to;
+    size_t head = code <= 4 || code == 9 || code == 12 ? 3 : listed[0];
+    memcpy(at, from, head);
+    at += head;
+    for (from += head; from < end;) {
+        at = put_number(at, *from++ + shift);
+        if (code == 3 || code == 4) {
+            at = put_number(at, *from ? *from + shift : 0);
+            from++;
+        } else if (code <= 2) {
+            size_t put = from[0] ? 1 + CONTENT : 2;
+            memcpy(at, from, put);
+            at += put;
+            from += put;
+        }
+    }
+    return (size_t)(at - to);
 }
 
 size_t any_record(const uint8_t *sound, uint8_t *to) {
@@ -257,10 +332,8 @@ size_t any_record(const uint8_t *sound, uint8_t *to) {
         random_bytes(to, n);
         return n;
     }
-    if (below(2) && memcmp(sound, LINE_L, sizeof LINE_L) == 0) {
-        const uint8_t *listed = RECORDS_L[below(sizeof RECORDS_L / sizeof RECORDS_L[0])];
-        n = listed[0];
-        memcpy(to, listed + 1, n);
+    if (below(2) && is_lifted_l(sound)) {
+        n = lifted_record(RECORDS_L[below(sizeof RECORDS_L / sizeof RECORDS_L[0])], objects_of(sound) - OBJECTS_L, to);
     } else {
         n = random_record(sound, to);
     }

@@ -6,7 +6,7 @@
 #include <stdint.h>
 
 // No line or record that is made is longer.
-enum { MOST_LINE = 1300, MOST_RECORD = 300 };
+enum { MOST_LINE = 1900, MOST_RECORD = 300 };
 
 // Reads document 01's file L; before any line is made, in the repository's root.
 void read_line_l(void);
@@ -18,13 +18,15 @@ size_t below(size_t n);
 
 void random_bytes(uint8_t *to, size_t n);
 
-// Document 01's line L, or a random one that meets questions 1 to 6, up to full size. All return the length.
+// Document 01's line L, or a random one that meets questions 1 to 6, up to full size. One line out of eight is a wide
+// one, every second of them L with more objects before its own. All return the length.
 size_t sound_line(uint8_t *to);
 
-// A sound line as it is, with one number changed, mutated, or bytes in its place.
+// A sound line as it is, with one number changed, cut, mutated, or bytes in its place.
 size_t any_line(const uint8_t *sound, size_t length, uint8_t *to);
 
-// The record that brings in what the line has, one thing at each step from 0; 0 where there is nothing to be done.
+// The record that brings in what the line has at a step from 0: a driver, a device, or external objects; 0 where there
+// is nothing to be done.
 size_t opening_record(const uint8_t *sound, size_t step, uint8_t *to);
 
 // A record for a sound line: often one that can be accepted, sometimes mutated, sometimes bytes in its place.

@@ -9,9 +9,17 @@ trap 'rm -rf "$out"' EXIT
 # What the caller's environment or an outer make would say about the places.
 unset MAKEFLAGS MFLAGS DESTDIR PREFIX LIBDIR INCLUDEDIR
 
+# File L; a line of 97 objects, all external data, whose state area is longer; and the length of what is stored of it.
+line=crates/office/data/line.bin
+wide_line() {
+    printf '\1\0\0\141\0'
+    for _ in {1..97}; do printf '\3\0\0'; done
+}
+wide_line > "$out/wide.bin"
+wide_bytes=$((3360 + 24))
+
 # As docs/CONTROLLER.md tells the reader; the repository's own header is not on the path. Each program ends with 1 if a
 # step does not go as it should. pkg-config writes a blank as the shell reads it, hence the eval.
-line=crates/office/data/line.bin
 controllers() {
     words=$(PKG_CONFIG_PATH=$1/lib/pkgconfig pkg-config --cflags --libs sorter_gate)
     rows=0
@@ -20,11 +28,13 @@ controllers() {
             cp "examples/controller/$name.c" "$out"
             (cd "$out" && eval "$compiler -O2 -Wall -Wextra -Werror $name.c -x none $words -o $name")
         done
-        rm -f "$out/state.bin" "$out/line.out"
-        # A line saved, and two starts of the controller that stores its area.
+        rm -f "$out/state.bin" "$out/wide-state.bin" "$out/line.out"
+        # A line saved, and two starts of the controller that stores its area, with each of two lines.
         if ! ("$out/main" && "$out/save" "$line" "$out/line.out" && "$out/restore" "$out/state.bin" &&
-            "$out/restore" "$out/state.bin") > "$out/rows" || ! cmp "$line" "$out/line.out" ||
-            ! tail -n 5 "$out/rows" | grep -q '^14  create partition 1$'; then
+            "$out/restore" "$out/state.bin" && "$out/restore" "$out/wide-state.bin" "$out/wide.bin" &&
+            "$out/restore" "$out/wide-state.bin" "$out/wide.bin") > "$out/rows" || ! cmp "$line" "$out/line.out" ||
+            [ "$(grep -c '^14  create partition 1$' "$out/rows")" != 2 ] ||
+            [ "$(wc -c < "$out/wide-state.bin")" != "$wide_bytes" ]; then
             echo "install: a step of the controllers does not go as it should:" >&2
             cat "$out/rows" >&2
             exit 1

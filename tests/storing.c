@@ -1,7 +1,8 @@
-// The example that stores a state area, examples/controller/restore.c, with its system calls in this test's hands (the
-// linker puts it between the two, --wrap). A process of its own stores; it is ended after each of its calls, or a call
-// fails; then what was not flushed is lost, as in a power cut, and the area is restored.
-//   storing FOLDER [PART]   all parts, or one of them, by its name in PARTS
+// The example that stores a state area, examples/controller/restore.c, with its system calls in the test's hands
+// (tests/cut_calls.h). A process of its own stores; it is ended after each of its calls, or a call fails; then what was
+// not flushed is lost, as in a power cut, and the area is restored. All with the example's own line, and with one whose
+// state area has the other length.
+//   storing FOLDER [PART]   all parts, or one of them, by its name in PARTS; to be called in the repository's root
 #define _DEFAULT_SOURCE
 #define main example_main
 #ifndef EXAMPLE
@@ -12,40 +13,19 @@
 #include <stdarg.h>
 #include <stdlib.h>
 #include <sys/mman.h>
-#include <sys/stat.h>
 #include <sys/wait.h>
 
-int __real_open(const char *path, int flags, ...);
-int __wrap_open(const char *path, int flags, ...);
-ssize_t __real_write(int file, const void *bytes, size_t count);
-ssize_t __wrap_write(int file, const void *bytes, size_t count);
-int __wrap_fsync(int file);
-int __real_close(int file);
-int __wrap_close(int file);
-int __real_rename(const char *from, const char *to);
-int __wrap_rename(const char *from, const char *to);
+#include "cut_calls.h"
 
-enum { MOST_CALLS = 64, PART_OF_IT = 500 };
-
-// What the calls of one storing did, in memory that outlives its process.
-static struct {
-    int calls;
-    char order[MOST_CALLS]; // open, write, flush, close, rename: a letter each, a capital for the folder
-    int loose;              // the file has bytes that are not flushed
-    int renamed;            // the new file has the name
-    int named;              // and the folder is flushed since
-    int told;               // what `store` gave back
-} * seen;
-
-// What is to happen to it: after which call it ends, which call fails and how, how much one write takes.
-static struct {
-    int cut, fail, error;
-    size_t portion;
-} plan;
+enum { PART_OF_IT = 500, AROUND = STATE_AT + SUM_BYTES, OLD_BYTE = 0xEE, WIDE_OBJECTS = 97 };
 
 static char name[256], fresh_name[sizeof name + 4];
-static uint8_t old_state[SORTER_GATE_STATE_BYTES], new_state[SORTER_GATE_STATE_BYTES], area[SORTER_GATE_STATE_BYTES];
-static const uint8_t OTHER[] = {1, 2, 0, 0, 0};
+static uint8_t old_state[SORTER_GATE_STATE_BYTES_WIDE], new_state[sizeof old_state], area[sizeof old_state];
+
+// The length of the stored file of this line.
+static size_t file_bytes(void) {
+    return AROUND + state_len;
+}
 
 static void fault(const char *form, ...) {
     va_list more;
@@ -55,71 +35,6 @@ static void fault(const char *form, ...) {
     fprintf(stderr, "\n");
     va_end(more);
     exit(1);
-}
-
-static int of_folder(int file) {
-    struct stat about;
-    return fstat(file, &about) == 0 && S_ISDIR(about.st_mode);
-}
-
-// Whether the call is one that fails.
-static int fails(char letter) {
-    if (seen->calls == MOST_CALLS) {
-        _exit(2);
-    }
-    seen->order[seen->calls++] = letter;
-    errno = plan.error;
-    return seen->calls == plan.fail;
-}
-
-static int ended(int result) {
-    if (seen->calls == plan.cut) {
-        _exit(0);
-    }
-    return result;
-}
-
-int __wrap_open(const char *path, int flags, ...) {
-    if (fails(flags & O_DIRECTORY ? 'O' : 'o')) {
-        return -1;
-    }
-    return ended(__real_open(path, flags, 0644));
-}
-
-ssize_t __wrap_write(int file, const void *bytes, size_t count) {
-    if (fails('w')) {
-        return -1;
-    }
-    seen->loose = 1;
-    return ended((int)__real_write(file, bytes, count < plan.portion ? count : plan.portion));
-}
-
-// Flushes in this test's book alone: what is not flushed there is lost by `lose`.
-int __wrap_fsync(int file) {
-    if (fails(of_folder(file) ? 'F' : 'f')) {
-        return -1;
-    }
-    if (of_folder(file)) {
-        seen->named = seen->renamed;
-    } else {
-        seen->loose = 0;
-    }
-    return ended(0);
-}
-
-int __wrap_close(int file) {
-    int failed = fails(of_folder(file) ? 'C' : 'c');
-    __real_close(file);
-    return failed ? -1 : ended(0);
-}
-
-int __wrap_rename(const char *from, const char *to) {
-    if (fails('r')) {
-        return -1;
-    }
-    seen->renamed = 1;
-    seen->named = 0;
-    return ended(__real_rename(from, to));
 }
 
 // A new file each time: some file systems flush one that is cut to nothing first, which takes long.
@@ -135,23 +50,23 @@ static void put_file(const char *path, const uint8_t *bytes, size_t count) {
 static void stored_bytes(const uint8_t *from, uint8_t *bytes) {
     memset(seen, 0, sizeof *seen);
     memset(&plan, 0, sizeof plan);
-    plan.portion = FILE_BYTES;
-    if (!store(name, LINE, sizeof LINE, from)) {
+    plan.portion = file_bytes();
+    if (!store(name, line, line_len, from, state_len)) {
         fault("nothing could be stored");
     }
     FILE *f = fopen(name, "rb");
-    if (!f || fread(bytes, 1, FILE_BYTES, f) != FILE_BYTES || fgetc(f) != EOF) {
-        fault("the stored file has not %d bytes", FILE_BYTES);
+    if (!f || fread(bytes, 1, file_bytes(), f) != file_bytes() || fgetc(f) != EOF) {
+        fault("the stored file has not %zu bytes", file_bytes());
     }
     fclose(f);
 }
 
 // The folder before a storing: with an area or without, and with what an earlier cut left of a longer file.
 static void prepare(const uint8_t *before) {
-    static const uint8_t rest[2 * FILE_BYTES] = {7};
+    static const uint8_t rest[2 * MOST_BYTES] = {7};
     remove(name);
     if (before) {
-        put_file(name, before, FILE_BYTES);
+        put_file(name, before, file_bytes());
     }
     put_file(fresh_name, rest, sizeof rest);
     memset(seen, 0, sizeof *seen);
@@ -161,7 +76,7 @@ static void prepare(const uint8_t *before) {
 static void store_apart(void) {
     pid_t child = fork();
     if (child == 0) {
-        seen->told = store(name, LINE, sizeof LINE, new_state);
+        seen->told = store(name, line, line_len, new_state, state_len);
         _exit(0);
     }
     int status = 0;
@@ -176,21 +91,21 @@ static void lose(const uint8_t *before, int data, int naming) {
     if (back) {
         __real_rename(name, fresh_name);
         if (before) {
-            put_file(name, before, FILE_BYTES);
+            put_file(name, before, file_bytes());
         }
     }
     const char *at = seen->renamed && !back ? name : fresh_name;
-    if (data && seen->loose && truncate(at, data == 1 ? 0 : FILE_BYTES / 2) != 0) {
+    if (data && seen->loose && truncate(at, data == 1 ? 0 : file_bytes() / 2) != 0) {
         fault("%s cannot be cut", at);
     }
 }
 
 // Restoring gives the old area or the new one, whole; the new one if the storing said so.
 static void old_or_new(const uint8_t *before, const char *when) {
-    memset(area, 0xEE, sizeof area);
-    enum stored found = restore(name, LINE, sizeof LINE, area);
-    int is_new = found == WHOLE && memcmp(area, new_state, sizeof area) == 0;
-    int is_old = before ? found == WHOLE && memcmp(area, old_state, sizeof area) == 0 : found == ABSENT;
+    memset(area, OLD_BYTE, sizeof area);
+    enum stored found = restore(name, line, line_len, area, state_len);
+    int is_new = found == WHOLE && memcmp(area, new_state, state_len) == 0;
+    int is_old = before ? found == WHOLE && memcmp(area, old_state, state_len) == 0 : found == ABSENT;
     if (!is_new && !is_old) {
         fault("after %s the area is neither the old nor the new one: %s (calls %s)", when, SAYS[found], seen->order);
     }
@@ -215,7 +130,7 @@ static void try_digest(const uint8_t *old_file) {
 static void try_order(const uint8_t *old_file) {
     prepare(old_file);
     plan.cut = plan.fail = 0;
-    plan.portion = FILE_BYTES;
+    plan.portion = file_bytes();
     store_apart();
     if (!seen->told || strcmp(seen->order, "owfcrOFC") != 0) {
         fault("the order of calls is %s, and not open, write, flush, close, rename, and the folder's", seen->order);
@@ -243,7 +158,7 @@ static void try_cuts(const uint8_t *old_file) {
     plan.fail = 0;
     for (int way = 0; way < 24; way++) {
         const uint8_t *before = way % 2 ? old_file : NULL;
-        tried += cuts_from(before, way / 2 % 2 ? FILE_BYTES : PART_OF_IT, way / 4 % 3, way / 12);
+        tried += cuts_from(before, way / 2 % 2 ? file_bytes() : PART_OF_IT, way / 4 % 3, way / 12);
     }
     if (tried < 24 * 8) {
         fault("only %d cuts were tried", tried);
@@ -276,10 +191,10 @@ static void try_errors(const uint8_t *old_file) {
 
 // The file must be refused, and for what; the state area stays as it was.
 static void must_refuse(enum stored wanted, const char *what, size_t place) {
-    static uint8_t untouched[SORTER_GATE_STATE_BYTES];
-    memset(area, 0xEE, sizeof area);
-    memset(untouched, 0xEE, sizeof untouched);
-    enum stored found = restore(name, LINE, sizeof LINE, area);
+    static uint8_t untouched[sizeof area];
+    memset(area, OLD_BYTE, sizeof area);
+    memset(untouched, OLD_BYTE, sizeof untouched);
+    enum stored found = restore(name, line, line_len, area, state_len);
     if (found != wanted) {
         fault("%s %zu: it is said to be '%s'", what, place, SAYS[found]);
     }
@@ -295,29 +210,30 @@ static void put_byte(size_t place, int byte) {
     }
 }
 
-// Every bit of every byte, and all of a byte at once.
+// Every bit of every byte, and all of a byte at once; of the longer file the lowest bit and all.
 static void try_damage(const uint8_t *file) {
-    put_file(name, file, FILE_BYTES);
-    for (size_t place = 0; place < FILE_BYTES; place++) {
-        for (int way = 0; way < 9; way++) {
+    int step = state_len > SORTER_GATE_STATE_BYTES ? 8 : 1;
+    put_file(name, file, file_bytes());
+    for (size_t place = 0; place < file_bytes(); place++) {
+        for (int way = 0; way < 9; way += step) {
             put_byte(place, file[place] ^ (way < 8 ? 1 << way : 0xFF));
             must_refuse(place < LINE_AT ? OTHER_FORM : DAMAGED, "a changed byte at place", place);
         }
         put_byte(place, file[place]);
     }
-    printf("storing: a changed byte at each of %d places is told\n", FILE_BYTES);
+    printf("storing: a changed byte at each of %zu places is told\n", file_bytes());
 }
 
 // Every shorter file, and longer ones.
 static void try_lengths(const uint8_t *file) {
-    uint8_t longer[FILE_BYTES + 3] = {0};
-    memcpy(longer, file, FILE_BYTES);
-    put_file(name, longer, sizeof longer);
-    for (size_t count = sizeof longer; count > 0; count--) {
+    static uint8_t longer[MOST_BYTES + 3];
+    memcpy(longer, file, file_bytes());
+    put_file(name, longer, file_bytes() + 3);
+    for (size_t count = file_bytes() + 3; count > 0; count--) {
         if (truncate(name, (off_t)count - 1) != 0) {
             fault("%s cannot be cut", name);
         }
-        if (count - 1 != FILE_BYTES) {
+        if (count - 1 != file_bytes()) {
             must_refuse(OTHER_LENGTH, "a file of length", count - 1);
         }
     }
@@ -326,41 +242,139 @@ static void try_lengths(const uint8_t *file) {
 // What cannot be opened, or read, is not taken for a file that is not there.
 static void try_unreadable(const uint8_t *file) {
     char below[sizeof name + 2];
-    put_file(name, file, FILE_BYTES);
+    put_file(name, file, file_bytes());
     snprintf(below, sizeof below, "%s/a", name);
-    if (restore(below, LINE, sizeof LINE, area) != UNREADABLE) {
+    if (restore(below, line, line_len, area, state_len) != UNREADABLE) {
         fault("a name below a file is not told");
     }
-    if (restore("/", LINE, sizeof LINE, area) != UNREADABLE) {
+    if (restore("/", line, line_len, area, state_len) != UNREADABLE) {
         fault("a folder is not told");
     }
     remove(name);
-    if (restore(name, LINE, sizeof LINE, area) != ABSENT) {
+    if (restore(name, line, line_len, area, state_len) != ABSENT) {
         fault("that nothing is stored is not told");
     }
 }
 
+// Another line's area: of another digest, or of another length too.
 static void try_lines(const uint8_t *file) {
-    static const uint8_t longer[] = {1, 1, 0, 0, 0, 0};
-    put_file(name, file, FILE_BYTES);
-    if (restore(name, LINE, sizeof LINE, area) != WHOLE || memcmp(area, old_state, sizeof area) != 0) {
+    static const uint8_t other[] = {1, 2, 0, 0, 0}, longer[] = {1, 1, 0, 0, 0, 0};
+    size_t other_len = SORTER_GATE_STATE_BYTES + SORTER_GATE_STATE_BYTES_WIDE - state_len;
+    put_file(name, file, file_bytes());
+    if (restore(name, line, line_len, area, state_len) != WHOLE || memcmp(area, old_state, state_len) != 0) {
         fault("the area is not restored with its own line file");
     }
-    if (restore(name, OTHER, sizeof OTHER, area) != OTHER_LINE || restore(name, longer, 6, area) != OTHER_LINE ||
-        restore(name, LINE, 4, area) != OTHER_LINE) {
+    if (restore(name, other, sizeof other, area, state_len) != OTHER_LINE ||
+        restore(name, longer, sizeof longer, area, state_len) != OTHER_LINE ||
+        restore(name, line, line_len - 1, area, state_len) != OTHER_LINE) {
         fault("another line's area is not refused");
+    }
+    if (restore(name, line, line_len, area, other_len) != OTHER_LENGTH) {
+        fault("an area of the other length is not refused");
+    }
+}
+
+// What the file is made of: eight bytes, the line's digest, the area, and the digest of all that.
+static void try_form(const uint8_t *file) {
+    size_t wanted = line_len > sizeof LINE ? SORTER_GATE_STATE_BYTES_WIDE : SORTER_GATE_STATE_BYTES;
+    if (state_len != wanted) {
+        fault("the line's area is taken to have %zu bytes, and not %zu", state_len, wanted);
+    }
+    if (memcmp(file, "SGSTATE1", 8) != 0 || !holds(file + 8, digest(line, line_len)) ||
+        memcmp(file + 16, old_state, wanted) != 0 || !holds(file + 16 + wanted, digest(file, 16 + wanted))) {
+        fault("the stored file is not made of mark, digest, area and digest");
+    }
+}
+
+// What was stored when all areas had one length: the file is taken, and stored again it is the same.
+static void try_before(const uint8_t *file) {
+    static uint8_t before[MOST_BYTES], again[MOST_BYTES];
+    (void)file;
+    FILE *f = fopen("tests/stored/state.bin", "rb");
+    size_t count = f ? fread(before, 1, sizeof before, f) : 0;
+    if (!f || fclose(f) != 0 || !begin_line(NULL) || count != file_bytes()) {
+        fault("tests/stored/state.bin is not a stored file of the small line");
+    }
+    put_file(name, before, count);
+    memset(area, OLD_BYTE, sizeof area);
+    if (restore(name, line, line_len, area, state_len) != WHOLE || area[1] != 1 || area[2] != 1 || area[3] != 0) {
+        fault("an area that was stored before is not restored");
+    }
+    stored_bytes(area, again);
+    if (memcmp(before, again, count) != 0) {
+        fault("an area that was stored before is stored otherwise");
+    }
+}
+
+// A start of the whole example in a process of its own, which says nothing here; whether it ended as it should.
+static int started(char *path) {
+    char program[] = "restore", *words[] = {program, name, path, NULL};
+    memset(seen, 0, sizeof *seen);
+    memset(&plan, 0, sizeof plan);
+    plan.portion = MOST_BYTES;
+    fflush(stdout);
+    pid_t child = fork();
+    if (child == 0) {
+        int silent = freopen("/dev/null", "w", stdout) && freopen("/dev/null", "w", stderr);
+        _exit(silent ? example_main(3, words) : 2);
+    }
+    int status = 0;
+    if (child < 0 || waitpid(child, &status, 0) != child || !WIFEXITED(status) || WEXITSTATUS(status) > 1) {
+        fault("a start did not end by itself");
+    }
+    return WEXITSTATUS(status) == 0;
+}
+
+// Two starts with a line file, and none with one that is refused or not there.
+static void try_starts(const uint8_t *file) {
+    char path[sizeof name + 8];
+    (void)file;
+    snprintf(path, sizeof path, "%s.line", name);
+    put_file(path, line, line_len);
+    remove(name);
+    if (!started(path) || !started(path) || restore(name, line, line_len, area, state_len) != WHOLE || area[2] != 1) {
+        fault("two starts do not leave two partitions");
+    }
+    put_file(path, line, line_len - 1);
+    if (started(path) || (remove(path), started(path))) {
+        fault("a line file that is refused, or not there, is started with");
     }
 }
 
 static const struct {
     const char *name;
     void (*run)(const uint8_t *old_file);
-} PARTS[] = {{"digest", try_digest}, {"order", try_order},     {"cuts", try_cuts},   {"errors", try_errors},
-             {"damage", try_damage}, {"lengths", try_lengths}, {"lines", try_lines}, {"unreadable", try_unreadable}};
+} PARTS[] = {{"digest", try_digest}, {"order", try_order},     {"cuts", try_cuts},    {"errors", try_errors},
+             {"damage", try_damage}, {"lengths", try_lengths}, {"lines", try_lines},  {"unreadable", try_unreadable},
+             {"form", try_form},     {"starts", try_starts},   {"before", try_before}};
+
+// All parts, or the one that is named, with one line.
+static int run_parts(const char *wanted) {
+    static uint8_t old_file[MOST_BYTES];
+    int run = 0;
+    stored_bytes(old_state, old_file);
+    for (size_t i = 0; i < sizeof PARTS / sizeof *PARTS; i++) {
+        if (!wanted || strcmp(wanted, PARTS[i].name) == 0) {
+            PARTS[i].run(old_file);
+            run++;
+        }
+    }
+    return run;
+}
+
+// A line file of one object more than the shorter area has room for, all external data.
+static const char *wide_line(const char *folder) {
+    static char path[sizeof name];
+    static uint8_t wide[5 + 3 * WIDE_OBJECTS] = {1, 0, 0, WIDE_OBJECTS, 0};
+    for (size_t at = 5; at < sizeof wide; at += 3) {
+        wide[at] = 3;
+    }
+    snprintf(path, sizeof path, "%s/wide.bin", folder);
+    put_file(path, wide, sizeof wide);
+    return path;
+}
 
 int main(int argc, char **argv) {
-    uint8_t old_file[FILE_BYTES];
-    int run = 0;
     seen = mmap(NULL, sizeof *seen, PROT_READ | PROT_WRITE, MAP_SHARED | MAP_ANONYMOUS, -1, 0);
     if (argc < 2 || seen == MAP_FAILED) {
         return 2;
@@ -369,12 +383,14 @@ int main(int argc, char **argv) {
     snprintf(fresh_name, sizeof fresh_name, "%s.new", name);
     memset(old_state, 1, sizeof old_state);
     memset(new_state, 2, sizeof new_state);
-    stored_bytes(old_state, old_file);
-    for (size_t i = 0; i < sizeof PARTS / sizeof *PARTS; i++) {
-        if (argc < 3 || strcmp(argv[2], PARTS[i].name) == 0) {
-            PARTS[i].run(old_file);
-            run++;
+    const char *lines[] = {NULL, wide_line(argv[1])};
+    for (int i = 0; i < 2; i++) {
+        if (!begin_line(lines[i])) {
+            fault("a line is not accepted");
+        }
+        if (!run_parts(argc < 3 ? NULL : argv[2])) {
+            return 2;
         }
     }
-    return run ? 0 : 2;
+    return 0;
 }

@@ -1,7 +1,7 @@
 #!/usr/bin/env bash
-# The example that stores a state area: ended after each of its system calls, with calls that fail, and with files that
-# are damaged, cut or another line's (tests/storing.c). Then the same over copies of the example with a fault each,
-# every one of which must be told.
+# The example that stores a state area, with lines of both kinds: ended after each of its system calls, with calls that
+# fail, and with files that are damaged, cut, another line's or stored before (tests/storing.c). Then the same over
+# copies of the example with a fault each, every one of which must be told.
 set -euo pipefail
 cd "$(dirname "$0")/.."
 out=$(mktemp -d)
@@ -12,8 +12,8 @@ wrapped=-Wl,--wrap=open,--wrap=write,--wrap=fsync,--wrap=close,--wrap=rename
 
 # build NAME EXAMPLE FLAG..: the test over the example or over a copy of it
 build() {
-    gcc -std=c11 -O1 -Iinclude "${@:3}" "-DEXAMPLE=\"$2\"" -o "$out/$1" tests/storing.c target/staticlib/libgate.a \
-        $wrapped
+    gcc -std=c11 -O1 -Iinclude "${@:3}" "-DEXAMPLE=\"$2\"" -o "$out/$1" tests/storing.c tests/cut_calls.c \
+        target/staticlib/libgate.a $wrapped
     mkdir -p "$out/folder"
 }
 
@@ -63,15 +63,29 @@ must_tell "a flush that failed" errors 'call [0-9]+ failed' 's/fsync(file) == 0/
 must_tell "a close that failed" errors 'call [0-9]+ failed' 's/close(file) == 0 &&/(close(file), 1) \&\&/'
 must_tell "a rename that failed" errors "$untrue" 's/rename(fresh, name) == 0/(rename(fresh, name), 1)/'
 must_tell "an interrupted write" errors 'call [0-9]+ failed by Interrupted' 's/ && errno != EINTR//'
-must_tell "checksum not checked" damage 'a changed byte at place' 's/!holds(file + SUM_AT, digest(file, SUM_AT))/0/'
+must_tell "checksum not checked" damage 'a changed byte at place' 's/!holds(file + sum_at, digest(file, sum_at))/0/'
 must_tell "checksum of the area alone" damage 'a changed byte at place 8:' \
-    's/digest(file, SUM_AT)/digest(file + STATE_AT, SORTER_GATE_STATE_BYTES)/'
+    's/digest(file, sum_at)/digest(file + STATE_AT, state_len)/'
 must_tell "mark not checked" damage 'a changed byte at place 0:' 's/memcmp(file, MARK, LINE_AT) != 0/0/'
 must_tell "area taken though refused" damage '.*yet the state area was changed' \
     's/if (found == WHOLE)/if (found != ABSENT)/'
-must_tell "a longer file taken" lengths 'a file of length' 's/count != FILE_BYTES/count < FILE_BYTES/'
-must_tell "a longer file not seen" lengths 'a file of length' 's/file\[FILE_BYTES + 1\]/file[FILE_BYTES]/'
-must_tell "a shorter file taken" lengths 'a file of length' 's/count != FILE_BYTES/count > FILE_BYTES/'
+must_tell "a longer file taken" lengths 'a file of length' 's/count != sum_at + SUM_BYTES/count < sum_at + SUM_BYTES/'
+must_tell "a longer file not seen" lengths 'a file of length' 's/file\[MOST_BYTES + 1\]/file[MOST_BYTES]/'
+must_tell "a shorter file taken" lengths 'a file of length' 's/count != sum_at + SUM_BYTES/count > sum_at + SUM_BYTES/'
+must_tell "the small length for all" form "the line's area is taken to have 1728 bytes, and not 3360" \
+    's/state_len = SORTER_GATE_NUMBER(needed);/state_len = SORTER_GATE_STATE_BYTES;/'
+must_tell "the wide length for all" form "the line's area is taken to have 3360 bytes, and not 1728" \
+    's/state_len = SORTER_GATE_NUMBER(needed);/state_len = SORTER_GATE_STATE_BYTES_WIDE;/'
+must_tell "the wide length for all" before 'tests/stored/state.bin is not a stored file of the small line' \
+    's/state_len = SORTER_GATE_NUMBER(needed);/state_len = SORTER_GATE_STATE_BYTES_WIDE;/'
+must_tell "only a part of the area stored" form 'the stored file is not made of' \
+    's/memcpy(file + STATE_AT, state, state_len)/memcpy(file + STATE_AT, state, SORTER_GATE_STATE_BYTES)/'
+must_tell "only a part of the area restored" lines 'the area is not restored' \
+    's/memcpy(state, file + STATE_AT, state_len)/memcpy(state, file + STATE_AT, SORTER_GATE_STATE_BYTES)/'
+must_tell "another mark" before 'an area that was stored before is not restored' 's/"SGSTATE1"/"SGSTATE2"/'
+must_tell "a line file that is not there" starts 'a line file that is refused' \
+    's/if (name && !read_line(name))/if (name \&\& read_line(name), 0)/'
+must_tell "a fresh state at each start" starts 'two starts do not leave' 's/if (found == ABSENT)/if (1)/'
 must_tell "line not checked" lines "another line's area" 's/return holds(file + LINE_AT.*/return WHOLE;/'
 must_tell "another digest" digest 'the digest of' 's/0x100000001b3u/0x100000001b5u/'
 must_tell "a name below a file" unreadable 'a name below' 's/errno == ENOENT ? ABSENT : UNREADABLE/ABSENT/'

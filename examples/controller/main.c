@@ -35,17 +35,23 @@ static const struct step SEQUENCE_P[] = {
 };
 
 int main(void) {
-    static uint8_t state[SORTER_GATE_STATE_BYTES], answer[SORTER_GATE_ANSWER_BYTES];
-    uint32_t fresh = gate_fresh(LINE_L, sizeof LINE_L, state, sizeof state);
+    // The longest area that a line can need; the library is lent as many bytes of it as this line needs.
+    static uint8_t state[SORTER_GATE_STATE_BYTES_WIDE], answer[SORTER_GATE_ANSWER_BYTES];
+    uint64_t needed = gate_state_bytes(LINE_L, sizeof LINE_L);
+    if (SORTER_GATE_KIND(needed) != SORTER_GATE_DONE || SORTER_GATE_NUMBER(needed) > sizeof state) {
+        printf("the line is refused: %u\n", (unsigned)SORTER_GATE_NUMBER(needed));
+        return 1;
+    }
+    size_t state_len = SORTER_GATE_NUMBER(needed);
+    uint32_t fresh = gate_fresh(LINE_L, sizeof LINE_L, state, state_len);
     if (fresh != SORTER_GATE_ACCEPTED) {
-        printf("the line is refused: %u\n", fresh);
+        printf("there is no fresh state: %u\n", fresh);
         return 1;
     }
     int wrong = 0;
     for (size_t i = 0; i < sizeof SEQUENCE_P / sizeof *SEQUENCE_P; i++) {
         const struct step *s = &SEQUENCE_P[i];
-        uint32_t n =
-            gate_operate(LINE_L, sizeof LINE_L, state, sizeof state, s->record, s->length, answer, sizeof answer);
+        uint32_t n = gate_operate(LINE_L, sizeof LINE_L, state, state_len, s->record, s->length, answer, sizeof answer);
         printf("%2zu %2u  %s\n", i + 1, n, s->what);
         wrong += n != s->answer;
     }

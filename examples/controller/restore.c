@@ -1,6 +1,7 @@
 // Keeps a state area over a restart. Each run is one start of a controller: it restores the area of the last run, or
 // makes a fresh one if none is stored, looks at it, creates the next partition, and stores the area.
-//   restore FILE   prints each step; ends with status 1 if one does not go as it should
+//   restore FILE [LINE]   prints each step; ends with status 1 if one does not go as it should. The line is that of the
+//                         line file LINE, or a small one that stands here.
 // A controller takes over `store` and `restore`, which are for POSIX systems. docs/CONTROLLER.md says what they are
 // for.
 #define _POSIX_C_SOURCE 200809L
@@ -12,8 +13,9 @@
 
 #include "sorter_gate.h"
 
-// A stored file: a mark that names this form, the digest of the line file, the state area, the digest of all before.
-enum { LINE_AT = 8, STATE_AT = 16, SUM_AT = STATE_AT + SORTER_GATE_STATE_BYTES, FILE_BYTES = SUM_AT + 8 };
+// A stored file: a mark that names this form, the digest of the line file, the state area, which has the length that
+// the line needs, and the digest of all before.
+enum { LINE_AT = 8, STATE_AT = 16, SUM_BYTES = 8, MOST_BYTES = STATE_AT + SORTER_GATE_STATE_BYTES_WIDE + SUM_BYTES };
 enum { PATH_BYTES = 4096 };
 static const char MARK[] = "SGSTATE1";
 
@@ -95,36 +97,39 @@ static int flush_folder(const char *name) {
 
 // A new file, flushed; then the name; then the folder, flushed. A power cut leaves the old file or the new one, and
 // after a 1 the new one. After a 0 it may be either: store again before anything else is done.
-static int store(const char *name, const uint8_t *line, size_t line_len, const uint8_t *state) {
-    uint8_t file[FILE_BYTES];
+static int store(const char *name, const uint8_t *line, size_t line_len, const uint8_t *state, size_t state_len) {
+    uint8_t file[MOST_BYTES];
     char fresh[PATH_BYTES];
+    size_t sum_at = STATE_AT + state_len;
     int length = snprintf(fresh, sizeof fresh, "%s.new", name);
-    if (length < 0 || (size_t)length >= sizeof fresh) {
+    if (length < 0 || (size_t)length >= sizeof fresh || state_len > SORTER_GATE_STATE_BYTES_WIDE) {
         return 0;
     }
     memcpy(file, MARK, LINE_AT);
     put(file + LINE_AT, digest(line, line_len));
-    memcpy(file + STATE_AT, state, SORTER_GATE_STATE_BYTES);
-    put(file + SUM_AT, digest(file, SUM_AT));
-    return write_new(fresh, file, sizeof file) && rename(fresh, name) == 0 && flush_folder(name);
+    memcpy(file + STATE_AT, state, state_len);
+    put(file + sum_at, digest(file, sum_at));
+    return write_new(fresh, file, sum_at + SUM_BYTES) && rename(fresh, name) == 0 && flush_folder(name);
 }
 
-static enum stored judge(const uint8_t *file, size_t count, const uint8_t *line, size_t line_len) {
-    if (count != FILE_BYTES) {
+static enum stored judge(const uint8_t *file, size_t count, const uint8_t *line, size_t line_len, size_t state_len) {
+    size_t sum_at = STATE_AT + state_len;
+    if (count != sum_at + SUM_BYTES) {
         return OTHER_LENGTH;
     }
     if (memcmp(file, MARK, LINE_AT) != 0) {
         return OTHER_FORM;
     }
-    if (!holds(file + SUM_AT, digest(file, SUM_AT))) {
+    if (!holds(file + sum_at, digest(file, sum_at))) {
         return DAMAGED;
     }
     return holds(file + LINE_AT, digest(line, line_len)) ? WHOLE : OTHER_LINE;
 }
 
-// Puts the stored area into `state` if the file is whole and of this line; otherwise `state` is as it was.
-static enum stored restore(const char *name, const uint8_t *line, size_t line_len, uint8_t *state) {
-    uint8_t file[FILE_BYTES + 1]; // one byte more, so that a longer file shows
+// Puts the stored area into `state` if the file is whole and of this line; otherwise `state` is as it was. `state` has
+// the length that the line needs, so that an area of the other length shows.
+static enum stored restore(const char *name, const uint8_t *line, size_t line_len, uint8_t *state, size_t state_len) {
+    uint8_t file[MOST_BYTES + 1]; // one byte more, so that a longer file shows
     FILE *f = fopen(name, "rb");
     if (!f) {
         return errno == ENOENT ? ABSENT : UNREADABLE;
@@ -132,19 +137,44 @@ static enum stored restore(const char *name, const uint8_t *line, size_t line_le
     size_t count = fread(file, 1, sizeof file, f);
     int failed = ferror(f);
     fclose(f);
-    enum stored found = failed ? UNREADABLE : judge(file, count, line, line_len);
+    enum stored found = failed ? UNREADABLE : judge(file, count, line, line_len, state_len);
     if (found == WHOLE) {
-        memcpy(state, file + STATE_AT, SORTER_GATE_STATE_BYTES);
+        memcpy(state, file + STATE_AT, state_len);
     }
     return found;
 }
 
 // A line with one driver and nothing else.
 static const uint8_t LINE[] = {1, 1, 0, 0, 0};
-static uint8_t state[SORTER_GATE_STATE_BYTES], answer[SORTER_GATE_ANSWER_BYTES];
+// The line of this run, in one byte more than a line file can have, so that a longer one shows; and its state area, in
+// the longest that a line can need.
+static uint8_t line[SORTER_GATE_LONGEST_LINE + 1], state[SORTER_GATE_STATE_BYTES_WIDE];
+static uint8_t answer[SORTER_GATE_ANSWER_BYTES];
+static size_t line_len, state_len;
+
+static int read_line(const char *name) {
+    FILE *f = fopen(name, "rb");
+    if (!f) {
+        return 0;
+    }
+    line_len = fread(line, 1, sizeof line, f);
+    return fclose(f) == 0;
+}
+
+// The line of this run, and how long its state area is, which the library tells of a line that it accepts.
+static int begin_line(const char *name) {
+    memcpy(line, LINE, sizeof LINE);
+    line_len = sizeof LINE;
+    if (name && !read_line(name)) {
+        return 0;
+    }
+    uint64_t needed = gate_state_bytes(line, line_len);
+    state_len = SORTER_GATE_NUMBER(needed);
+    return SORTER_GATE_KIND(needed) == SORTER_GATE_DONE && state_len <= sizeof state;
+}
 
 static uint32_t call(const uint8_t *record, size_t length, const char *what) {
-    uint32_t n = gate_operate(LINE, sizeof LINE, state, sizeof state, record, length, answer, sizeof answer);
+    uint32_t n = gate_operate(line, line_len, state, state_len, record, length, answer, sizeof answer);
     printf("%2u  %s\n", n, what);
     return n;
 }
@@ -153,10 +183,10 @@ static uint32_t call(const uint8_t *record, size_t length, const char *what) {
 // order, less says what is not.
 static int begin(const char *name) {
     static const uint8_t nothing[1] = {0};
-    enum stored found = restore(name, LINE, sizeof LINE, state);
+    enum stored found = restore(name, line, line_len, state, state_len);
     printf("    %s: %s\n", name, SAYS[found]);
     if (found == ABSENT) {
-        printf(" %u  a fresh state\n", gate_fresh(LINE, sizeof LINE, state, sizeof state));
+        printf(" %u  a fresh state\n", gate_fresh(line, line_len, state, state_len));
     } else if (found != WHOLE) {
         return 0; // what is on the machine is known to the operator alone
     }
@@ -177,14 +207,18 @@ static int create_next(void) {
 }
 
 int main(int argc, char **argv) {
-    if (argc != 2) {
-        fprintf(stderr, "restore FILE\n");
+    if (argc != 2 && argc != 3) {
+        fprintf(stderr, "restore FILE [LINE]\n");
         return 2;
+    }
+    if (!begin_line(argc == 3 ? argv[2] : NULL)) {
+        fprintf(stderr, "%s: not a line file that is accepted\n", argv[argc - 1]);
+        return 1;
     }
     if (!begin(argv[1]) || !create_next()) {
         return 1;
     }
-    int stored = store(argv[1], LINE, sizeof LINE, state);
+    int stored = store(argv[1], line, line_len, state, state_len);
     printf("    %s: %s\n", argv[1], stored ? "stored" : "not stored");
     return !stored;
 }

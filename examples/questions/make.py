@@ -13,7 +13,8 @@ import pathlib
 import sys
 
 HOME = pathlib.Path(__file__).resolve().parent
-STATE_BYTES, ANSWER_BYTES = 1728, 128
+# The state area of L and of every line of at most 96 objects; that of a longer line; the least answer area.
+STATE_BYTES, STATE_BYTES_WIDE, ANSWER_BYTES = 1728, 3360, 128
 # Where the state area has the contents of object 1.
 FIRST_CONTENT = 64 + 16 + 16 + 1
 
@@ -34,9 +35,9 @@ def session(*records):
     return b"".join(bytes([len(r), *r]) for r in records)
 
 
-def fresh():
-    """The fresh state of L: all 0 but the value numbers of objects 1 and 3."""
-    area = bytearray(STATE_BYTES)
+def fresh(length=STATE_BYTES):
+    """The fresh state of L: all 0 but the value numbers of objects 1 and 3; of another length, what would be one."""
+    area = bytearray(length)
     area[FIRST_CONTENT], area[FIRST_CONTENT + 2 * 17] = HARDWIRED
     return area
 
@@ -54,7 +55,8 @@ LINES = {
     6: (line(hardwired=[2, 2]), "file L, but card 1's hard-wired value is 2, which names object 4 of card 2"),
 }
 CALLS = {
-    7: (fresh()[:-1], ANSWER_BYTES, "a state area of 1,727 bytes"),
+    7: (fresh(STATE_BYTES_WIDE), ANSWER_BYTES, "a state area of 3,360 bytes, which a line of over 96 objects needs; L "
+        "has six, and needs 1,728"),
     8: (fresh(), ANSWER_BYTES - 1, "an answer area of 127 bytes"),
     9: (fresh(), ANSWER_BYTES, "a state area of another line: card 1's hard-wired descriptor holds 2, in L it is 1"),
 }

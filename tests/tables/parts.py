@@ -45,10 +45,10 @@ def enum_of_header():
 
 def sizes(key, row_of):
     """The numbers that header or binding has, each behind what it is."""
-    made = []
+    made, known = [], numbers()
     for row in read("numbers.ini").values():
         if key in row:
-            made += row_of(row[key], row["is"], row["says"])
+            made += row_of(row[key], row["is"], row["says"].format_map(known))
     return made
 
 

@@ -5,14 +5,16 @@
 //! no heap, and answers every input of any length and content.
 //!
 //! ```
-//! use sorter_gate::{ANSWER_BYTES, STATE_BYTES, fresh, operate};
+//! use sorter_gate::{ANSWER_BYTES, STATE_BYTES_WIDE, fresh, operate, state_bytes};
 //!
 //! // A line with one driver and nothing else: edition 1, one driver, no card, object or value.
 //! let line = [1, 1, 0, 0, 0];
-//! let (mut state, mut answer) = ([0; STATE_BYTES], [0; ANSWER_BYTES]);
-//! fresh(&line, &mut state)?;
-//! operate(&line, &mut state, &[5, 1], &mut answer)?;
-//! let refusal = operate(&line, &mut state, &[5, 1], &mut answer).unwrap_err();
+//! let (mut room, mut answer) = ([0; STATE_BYTES_WIDE], [0; ANSWER_BYTES]);
+//! // The area of this line is a part of the longest that a line can need.
+//! let state = &mut room[..state_bytes(&line)?];
+//! fresh(&line, state)?;
+//! operate(&line, state, &[5, 1], &mut answer)?;
+//! let refusal = operate(&line, state, &[5, 1], &mut answer).unwrap_err();
 //! assert_eq!(refusal.number(), 14);
 //! # Ok::<(), sorter_gate::Refusal>(())
 //! ```
@@ -27,17 +29,20 @@ pub use refusal::Refusal;
 pub use rewriting::RewriteError;
 
 // begin sizes: made by tests/tables from tables/numbers.ini
-/// The length of a state area.
+/// The length of the state area of a line of at most 96 objects.
 pub const STATE_BYTES: usize = 1728;
+
+/// The length of the state area of a line of more objects, at most 192; no area is longer.
+pub const STATE_BYTES_WIDE: usize = 3360;
 
 /// The least length of an answer area.
 pub const ANSWER_BYTES: usize = 128;
 
 /// The length of the longest line file that can be accepted; refuse a longer one before you call.
-pub const LONGEST_LINE: usize = 1202;
+pub const LONGEST_LINE: usize = 1773;
 
 /// The length of the longest record that can be accepted; refuse a longer one before you call.
-pub const LONGEST_RECORD: usize = 147;
+pub const LONGEST_RECORD: usize = 155;
 // end sizes
 
 /// The version of this package and of the library that it is made for.
@@ -45,6 +50,7 @@ pub const VERSION: &str = env!("CARGO_PKG_VERSION");
 
 unsafe extern "C" {
     fn gate_load_check(line: *const u8, line_len: usize) -> u32;
+    fn gate_state_bytes(line: *const u8, line_len: usize) -> u64;
     fn gate_fresh(line: *const u8, line_len: usize, state: *mut u8, state_len: usize) -> u32;
     fn gate_operate(
         line: *const u8,
@@ -67,8 +73,28 @@ pub fn load_check(line: &[u8]) -> Result<(), Refusal> {
     Refusal::check(number)
 }
 
-/// Makes the fresh state of a line: questions 1 to 6, then 7. If it is refused, `state` is as it was; otherwise all of
-/// it is the fresh state, whatever it held.
+/// Tells how long the state area of a line has to be: `STATE_BYTES` or `STATE_BYTES_WIDE`, by the count of its objects
+/// alone. A line file is refused by questions 1 to 6.
+///
+/// An answer of a kind that this package does not know, as a later version of the library may have, is a `Refusal` too,
+/// with the number `u32::MAX`.
+///
+/// ```
+/// use sorter_gate::{STATE_BYTES, STATE_BYTES_WIDE, state_bytes};
+///
+/// // 96 external objects, and one more.
+/// let line = |objects: u8| [&[1, 0, 0, objects, 0], &[3, 0, 0].repeat(objects.into())[..]].concat();
+/// assert_eq!(state_bytes(&line(96)), Ok(STATE_BYTES));
+/// assert_eq!(state_bytes(&line(97)), Ok(STATE_BYTES_WIDE));
+/// ```
+pub fn state_bytes(line: &[u8]) -> Result<usize, Refusal> {
+    // SAFETY: as in `load_check`.
+    let answer = unsafe { gate_state_bytes(line.as_ptr(), line.len()) };
+    rewriting::length_told(answer)
+}
+
+/// Makes the fresh state of a line: questions 1 to 6, then 7, whether `state` has just the length that `state_bytes`
+/// tells. If it is refused, `state` is as it was; otherwise all of it is the fresh state, whatever it held.
 pub fn fresh(line: &[u8], state: &mut [u8]) -> Result<(), Refusal> {
     // SAFETY: both pointers come from slices: each is valid for its length, and not null even if that is 0. `state` is
     // borrowed mutably, so that it overlaps nothing and nobody else touches it during the call.
@@ -76,9 +102,9 @@ pub fn fresh(line: &[u8], state: &mut [u8]) -> Result<(), Refusal> {
     Refusal::check(number)
 }
 
-/// Judges one operation record by all questions and, if it is accepted, carries it out. A read (codes 3 and 4) has then
-/// put sixteen bytes for each source at the start of `answer`; the rest of `answer` is as it was. If the record is
-/// refused, both areas are as they were.
+/// Judges one operation record by all questions and, if it is accepted, carries it out. `state` has the length that
+/// `state_bytes` tells, as for `fresh`. A read (codes 3 and 4) has then put sixteen bytes for each source at the start
+/// of `answer`; the rest of `answer` is as it was. If the record is refused, both areas are as they were.
 ///
 /// An empty record is always refused, and never for what it asks: `Refusal` 10 says that the line file and both areas
 /// are in order, a smaller number what is wrong with them.

@@ -12,7 +12,7 @@ const TEXTS: [&str; 20] = [
     "line file: bytes are left over",
     "line file: a card has not exactly one kind 4 object, or a kind 4 object has no card as owner",
     "line file: a hard-wired value names what it may not",
-    "the state area has another length than 1,728 bytes",
+    "the state area has another length than the line needs: 1,728 or, over 96 objects, 3,360 bytes",
     "the answer area has fewer than 128 bytes",
     "the state is not well formed for this line file",
     "the record cannot be read to its last byte",
@@ -39,6 +39,9 @@ pub struct Refusal(u32);
 impl Refusal {
     /// How many questions this package knows.
     pub const QUESTIONS: u32 = TEXTS.len() as u32;
+
+    /// What stands for an answer of a kind that this package does not know.
+    pub(crate) const UNKNOWN: Refusal = Refusal(u32::MAX);
 
     /// The refusal with a question's number, as a log or another program tells it; 0 is none. A number above
     /// `QUESTIONS` is one of a later version.

@@ -1,4 +1,4 @@
-//! The answer of a call that has a kind beside its number, and why a line was not written.
+//! The answers of the calls that have a kind beside their number, and why a line was not written.
 
 use crate::Refusal;
 use core::error::Error;
@@ -36,6 +36,16 @@ impl RewriteError {
     }
 }
 
+/// The length of a state area that an answer tells, or the question that refused the line. What cannot be told apart,
+/// an answer of a kind that is not known, is refused by a question that is not known either.
+pub(crate) const fn length_told(answer: u64) -> Result<usize, Refusal> {
+    match RewriteError::check(answer) {
+        Ok(length) => Ok(length),
+        Err(RewriteError::Refused(refusal)) => Err(refusal),
+        Err(RewriteError::Short(_) | RewriteError::Unknown(_)) => Err(Refusal::UNKNOWN),
+    }
+}
+
 impl Display for RewriteError {
     fn fmt(&self, f: &mut Formatter<'_>) -> fmt::Result {
         match self {
@@ -52,8 +62,8 @@ impl Error for RewriteError {}
 
 #[cfg(test)]
 mod tests {
-    use super::{DONE, KIND_UNIT, REFUSED, RewriteError, SHORT};
-    use crate::Refusal;
+    use super::{DONE, KIND_UNIT, REFUSED, RewriteError, SHORT, length_told};
+    use crate::{Refusal, STATE_BYTES_WIDE};
 
     #[test]
     fn an_answer_is_taken_apart_by_its_kind() {
@@ -70,6 +80,18 @@ mod tests {
     fn an_answer_of_a_later_version_is_an_error() {
         for answer in [REFUSED * KIND_UNIT, (SHORT + 1) * KIND_UNIT, (SHORT + 1) * KIND_UNIT + 7, u64::MAX] {
             assert_eq!(RewriteError::check(answer), Err(RewriteError::Unknown(answer)));
+            assert_eq!(length_told(answer), Err(Refusal::UNKNOWN));
+        }
+    }
+
+    /// No state area is too short to be told its length: that kind is `gate_rewrite`'s alone.
+    #[test]
+    fn a_length_is_told_or_the_line_is_refused() {
+        for number in [1, 6, STATE_BYTES_WIDE as u64, KIND_UNIT - 1] {
+            let refusal = Refusal::new(number as u32).expect("only 0 is no refusal");
+            assert_eq!(length_told(DONE * KIND_UNIT + number), Ok(number as usize));
+            assert_eq!(length_told(REFUSED * KIND_UNIT + number), Err(refusal));
+            assert_eq!(length_told(SHORT * KIND_UNIT + number), Err(Refusal::UNKNOWN));
         }
     }
 }

@@ -1,22 +1,26 @@
 //! The named codes and the longest files and records: what the library makes of them.
 
-use sorter_gate::{ANSWER_BYTES, LONGEST_LINE, LONGEST_RECORD, STATE_BYTES, code, fresh, load_check, operate};
+mod common;
 
-/// A line with every count at its limit: 16 drivers, 16 cards, 96 objects, 47 values of six entries each. The first 16
-/// objects are the cards' hard-wired descriptors, the rest is external data.
+use common::{FULL, number};
+use sorter_gate::{ANSWER_BYTES, LONGEST_LINE, LONGEST_RECORD, code, fresh, load_check, operate, state_bytes};
+
+/// Every count at its limit; what is not hard-wired is external data.
 fn full_line() -> Vec<u8> {
-    let mut line = vec![1, 16, 16, 96, 47];
-    (1..=16).for_each(|card| line.extend([4, 2, card]));
-    (17..=96).for_each(|_| line.extend([3, 0, 0]));
-    line.extend([0; 16]);
-    (0..47).for_each(|_| line.extend([&[6][..], &[17, 1, 0].repeat(6)].concat()));
-    line
+    common::full_line(3, 1, 0)
+}
+
+/// A fresh state of a line, of the length that the line needs.
+fn fresh_of(line: &[u8]) -> Vec<u8> {
+    let mut state = vec![0; state_bytes(line).expect("the line is accepted")];
+    fresh(line, &mut state).expect("the line is accepted");
+    state
 }
 
 /// Carries records out on a fresh state of the full line, and gives the number of the last; the others are accepted.
 fn last_of(records: &[&[u8]]) -> u32 {
-    let (line, mut state, mut answer) = (full_line(), [0; STATE_BYTES], [0; ANSWER_BYTES]);
-    fresh(&line, &mut state).expect("the full line is accepted");
+    let (line, mut answer) = (full_line(), [0; ANSWER_BYTES]);
+    let mut state = fresh_of(&line);
     let (last, before) = records.split_last().expect("there is a record");
     for record in before {
         assert_eq!(operate(&line, &mut state, record, &mut answer), Ok(()), "{record:?}");
@@ -36,14 +40,14 @@ fn the_longest_line_is_accepted_and_no_longer_one() {
 
 #[test]
 fn the_longest_record_is_accepted_and_no_longer_one() {
-    let objects: Vec<u8> = (17..25).collect();
+    let objects: Vec<Vec<u8>> = (FULL - 7..=FULL).map(number).collect();
     let before: [&[u8]; 3] = [
         &[code::CREATE_PARTITION, 1],
         &[code::ACTIVATE_DRIVER, 1, 1],
-        &[&[code::ACTIVATE_OBJECTS, 1, 8], &objects[..]].concat(),
+        &[&[code::ACTIVATE_OBJECTS, 1, 8], &objects.concat()[..]].concat(),
     ];
     let mut record = vec![code::DRIVER_WRITE, 1, 8];
-    objects.iter().for_each(|object| record.extend([&[*object, 1], &[7; 16][..]].concat()));
+    objects.iter().for_each(|object| record.extend([&object[..], &[1], &[7; 16]].concat()));
     assert_eq!(record.len(), LONGEST_RECORD);
     assert_eq!(last_of(&[&before[..], &[&record]].concat()), 0);
     record.push(0);
@@ -80,9 +84,9 @@ fn each_code_does_what_its_name_says() {
 /// Line and record are only read: a record may stand inside the line file.
 #[test]
 fn line_and_record_may_overlap() {
-    let (line, mut state, mut answer) = (full_line(), [0; STATE_BYTES], [0; ANSWER_BYTES]);
-    fresh(&line, &mut state).expect("the full line is accepted");
-    // A value of the line begins as a record that destroys partition 17 does.
+    // A line of 17 objects, whose value begins as a record that destroys partition 17 does.
+    let line = [&[1, 0, 0, 17, 1], &[3, 0, 0].repeat(17)[..], &[6], &[17, 1, 0].repeat(6)].concat();
+    let (mut state, mut answer) = (fresh_of(&line), [0; ANSWER_BYTES]);
     let inside = line.windows(2).rposition(|two| two == [code::DESTROY_PARTITION, 17]).expect("a value begins so");
     let record = &line[inside..inside + 2];
     let apart = operate(&line, &mut state.clone(), &[code::DESTROY_PARTITION, 17], &mut answer);
@@ -99,14 +103,15 @@ fn shifted(room: &mut [u8], by: usize, length: usize) -> &mut [u8] {
 #[test]
 fn areas_may_stand_anywhere() {
     let full = full_line();
+    let length = state_bytes(&full).expect("the full line is accepted");
     let records: [&[u8]; 3] = [&[code::CREATE_PARTITION, 1], &[code::ACTIVATE_CARD, 1, 1], &[code::DEACTIVATE_CARD, 1]];
     let mut expected = None;
     for by in 0..16 {
-        let mut rooms = [(); 4].map(|()| vec![0; STATE_BYTES + 64]);
+        let mut rooms = [(); 4].map(|()| vec![0; length + 64]);
         let [line_room, state_room, record_room, answer_room] = &mut rooms;
         let line = shifted(line_room, by, full.len());
         line.copy_from_slice(&full);
-        let state = shifted(state_room, by, STATE_BYTES);
+        let state = shifted(state_room, by, length);
         fresh(line, state).expect("the full line is accepted");
         for wanted in records {
             let record = shifted(record_room, by, wanted.len());
@@ -124,9 +129,9 @@ fn calls_on_different_areas_run_at_once() {
         for card in 1..=4 {
             let line = &line;
             threads.spawn(move || {
-                let (mut state, mut answer) = ([0; STATE_BYTES], [0; ANSWER_BYTES]);
+                let mut answer = [0; ANSWER_BYTES];
                 for _ in 0..200 {
-                    fresh(line, &mut state).expect("the full line is accepted");
+                    let mut state = fresh_of(line);
                     for record in [&[code::CREATE_PARTITION, card][..], &[code::ACTIVATE_CARD, card, card]] {
                         assert_eq!(operate(line, &mut state, record, &mut answer), Ok(()), "{record:?}");
                     }

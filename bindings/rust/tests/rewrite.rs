@@ -1,5 +1,7 @@
 //! Line files that are loaded and written again.
 
+mod common;
+
 use sorter_gate::{LONGEST_LINE, Refusal, RewriteError, load_check, rewrite};
 use std::error::Error;
 
@@ -47,13 +49,9 @@ fn a_refused_file_has_its_question_and_leaves_the_area() {
 
 #[test]
 fn the_smallest_and_the_longest_line_come_out_as_they_are() {
-    let mut longest = vec![1, 16, 16, 96, 47];
-    (1..=16).for_each(|card| longest.extend([4, 2, card]));
-    (17..=96).for_each(|_| longest.extend([1, 0, 0]));
-    longest.extend([0; 16]);
-    (0..47).for_each(|_| longest.extend([&[6][..], &[17, 2, 47].repeat(6)].concat()));
+    let longest = common::full_line(1, 2, 47);
     assert_eq!(longest.len(), LONGEST_LINE);
-    for line in [vec![1, 0, 0, 0, 0], longest] {
+    for line in [vec![1, 0, 0, 0, 0], common::data_line(127), common::data_line(128), longest] {
         assert_eq!(rewritten(&line, line.len() - 1).0, Err(RewriteError::Short(line.len())));
         assert_eq!(rewritten(&line, line.len()), (Ok(line.len()), line.clone()));
     }

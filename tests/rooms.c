@@ -1,0 +1,259 @@
+#include <stdio.h>
+#include <string.h>
+
+#include "areas.h"
+#include "effect.h"
+#include "rooms.h"
+#include "sorter_gate.h"
+
+// What areas are filled with before a call, and the bytes that a state area has for an object.
+enum { OLD = 0xEE, RECORD_BYTES = CONTENT + 1 };
+// Where the records begin, and the least count of objects that no line can have.
+enum { RECORDS_FROM = MOST_PARTITION + 1 + 2 * MOST_OWNERS, TOO_MANY = MOST_OBJECTS + 1 };
+
+// Counts of objects: the ends of both kinds of lines; those that leave many records or one to nobody; those of wide
+// lines, where the number gets a byte more too.
+static const unsigned ENDS[] = {0, MOST_SMALL, MOST_SMALL + 1, MOST_OBJECTS};
+static const unsigned FEWER[] = {0, MOST_SMALL - 1, MOST_SMALL + 1, MOST_OBJECTS - 1};
+static const unsigned WIDE[] = {MOST_SMALL + 1, LONG_FROM - 1, LONG_FROM, MOST_OBJECTS - 1, MOST_OBJECTS};
+// Records: create partition 1, and none, which looks at the areas and changes nothing.
+static const uint8_t CREATE[] = {SORTER_GATE_CODE_CREATE_PARTITION, 1};
+
+_Static_assert(SORTER_GATE_STATE_BYTES == RECORDS_FROM + RECORD_BYTES * MOST_SMALL, "the small area's length");
+_Static_assert(SORTER_GATE_STATE_BYTES_WIDE == RECORDS_FROM + RECORD_BYTES * MOST_OBJECTS, "the wide area's length");
+
+// The pages of the areas that may be written, as the call must leave them.
+static uint8_t expected[AREAS][PAGE];
+
+static void keep(void) {
+    for (enum area_name name = LINE; name < AREAS; name++) {
+        memcpy(expected[name], areas[name].own, PAGE);
+    }
+}
+
+static void fill(enum area_name name, size_t length, uint8_t byte) {
+    areas[name].length = length;
+    memset(areas[name].own, byte, PAGE);
+}
+
+static void put(enum area_name name, const uint8_t *bytes, size_t length) {
+    areas[name].length = length;
+    memcpy(own_start(name), bytes, length);
+}
+
+static uint8_t *put_head(uint8_t *at, unsigned drivers, unsigned objects, unsigned values) {
+    *at++ = 1;
+    *at++ = (uint8_t)drivers;
+    *at++ = 0;
+    return put_number(put_number(at, objects), values);
+}
+
+static uint8_t *put_object(uint8_t *at, uint8_t kind, uint8_t class, unsigned owner) {
+    *at++ = kind;
+    *at++ = class;
+    *at++ = (uint8_t)owner;
+    return at;
+}
+
+// A line of external data alone stands in its area.
+static void lend_data(unsigned objects) {
+    static uint8_t line[PAGE];
+    uint8_t *at = put_head(line, 0, objects, 0);
+    for (unsigned object = 1; object <= objects; object++) {
+        at = put_object(at, HARDCODED - 1, EXTERNAL, 0);
+    }
+    put(LINE, line, (size_t)(at - line));
+}
+
+// A line of transfer descriptors, with values whose two entries name the last objects.
+static void lend_linked(unsigned objects) {
+    static uint8_t line[PAGE];
+    uint8_t *at = put_head(line, MOST_OWNERS, objects, MOST_VALUES);
+    for (unsigned object = 1; object <= objects; object++) {
+        at = put_object(at, TRANSFER, BY_DRIVER, 1 + object % MOST_OWNERS);
+    }
+    for (unsigned value = 1; value <= MOST_VALUES; value++) {
+        *at++ = 2;
+        for (unsigned entry = 0; entry < 2; entry++) {
+            at = put_number(at, objects - (value + entry) % MOST_VALUES);
+            *at++ = BOTH;
+            *at++ = (uint8_t)value;
+        }
+    }
+    put(LINE, line, (size_t)(at - line));
+}
+
+// The answer of a call that has a kind, where a question refuses.
+static uint64_t refused_by(enum sorter_gate_answer question) {
+    return ((uint64_t)SORTER_GATE_REFUSED << 32) + question;
+}
+
+// The answer is the one wanted, and every page is as it is kept.
+static void hold(uint64_t answer, uint64_t wanted, const char *what, size_t which) {
+    if (answer != wanted) {
+        complain("answered %llu, and not %llu, for %s %zu", (unsigned long long)answer, (unsigned long long)wanted,
+                 what, which);
+    }
+    for (enum area_name name = LINE; name < AREAS; name++) {
+        if (memcmp(areas[name].own, expected[name], PAGE)) {
+            complain("answered %llu, and left another byte in the %s than it must, for %s %zu",
+                     (unsigned long long)answer, area_text(name), what, which);
+        }
+    }
+}
+
+static uint32_t load_check(void) {
+    trial.call = "gate_load_check";
+    return gate_load_check(lent_start(LINE), areas[LINE].length);
+}
+
+static uint64_t state_bytes(void) {
+    trial.call = "gate_state_bytes";
+    return gate_state_bytes(lent_start(LINE), areas[LINE].length);
+}
+
+static uint32_t make_fresh(void) {
+    trial.call = "gate_fresh";
+    return gate_fresh(lent_start(LINE), areas[LINE].length, lent_start(STATE), areas[STATE].length);
+}
+
+static uint32_t operate(void) {
+    trial.call = "gate_operate";
+    return gate_operate(lent_start(LINE), areas[LINE].length, lent_start(STATE), areas[STATE].length,
+                        lent_start(RECORD), areas[RECORD].length, lent_start(ANSWER), areas[ANSWER].length);
+}
+
+static uint64_t rewrite(void) {
+    trial.call = "gate_rewrite";
+    return gate_rewrite(lent_start(LINE), areas[LINE].length, lent_start(OUT), areas[OUT].length);
+}
+
+static uint8_t *expected_state(void) {
+    return expected[STATE] + (own_start(STATE) - areas[STATE].own);
+}
+
+// Both calls on a state area of every length: only that which the line needs passes question 7.
+static void try_state_lengths(struct rooms *tally) {
+    put(RECORD, CREATE, sizeof CREATE);
+    fill(ANSWER, SORTER_GATE_ANSWER_BYTES, OLD);
+    for (size_t length = 0; length <= PAGE; length++) {
+        int right = length == state_bytes_of(own_start(LINE));
+        fill(STATE, length, OLD);
+        keep();
+        uint32_t number = make_fresh();
+        if (right) {
+            follow_fresh(own_start(LINE), expected_state());
+        }
+        hold(number, right ? SORTER_GATE_ACCEPTED : SORTER_GATE_STATE_LENGTH, "a state area of length", length);
+        number = operate();
+        if (right) {
+            expected_state()[1] = 1;
+        }
+        hold(number, right ? SORTER_GATE_ACCEPTED : SORTER_GATE_STATE_LENGTH, "a state area of length", length);
+        tally->lengths += 2;
+    }
+}
+
+// The fresh state of the line stands in its area.
+static void lend_fresh(void) {
+    fill(STATE, state_bytes_of(own_start(LINE)), OLD);
+    follow_fresh(own_start(LINE), own_start(STATE));
+}
+
+// An answer area of every length.
+static void try_answer_lengths(struct rooms *tally) {
+    lend_fresh();
+    put(RECORD, CREATE, 0);
+    for (size_t length = 0; length <= PAGE; length++) {
+        fill(ANSWER, length, OLD);
+        keep();
+        uint32_t wanted = length < SORTER_GATE_ANSWER_BYTES ? SORTER_GATE_ANSWER_LENGTH : SORTER_GATE_RECORD;
+        hold(operate(), wanted, "an answer area of length", length);
+        tally->lengths++;
+    }
+}
+
+// Every count that a line can have, and more of them.
+static void try_counts(struct rooms *tally) {
+    uint64_t refused = refused_by(SORTER_GATE_FIELD_RANGE);
+    for (unsigned objects = 0; objects <= UINT8_MAX; objects++) {
+        int known = objects < TOO_MANY;
+        lend_data(objects);
+        keep();
+        hold(load_check(), known ? SORTER_GATE_ACCEPTED : SORTER_GATE_FIELD_RANGE, "a count of objects of", objects);
+        hold(state_bytes(), known ? state_bytes_of(own_start(LINE)) : refused, "a count of objects of", objects);
+        tally->counts += 2;
+    }
+}
+
+// Every byte of the records that are no object's.
+static void try_absent(struct rooms *tally) {
+    lend_fresh();
+    put(RECORD, CREATE, 0);
+    fill(ANSWER, SORTER_GATE_ANSWER_BYTES, OLD);
+    keep();
+    hold(operate(), SORTER_GATE_RECORD, "a fresh state of objects", objects_of(own_start(LINE)));
+    size_t place = RECORDS_FROM + RECORD_BYTES * (size_t)objects_of(own_start(LINE));
+    for (; place < areas[STATE].length; place++, tally->absent++) {
+        own_start(STATE)[place] = 1;
+        keep();
+        hold(operate(), SORTER_GATE_STATE_FORM, "a byte of an absent object at place", place);
+        own_start(STATE)[place] = 0;
+    }
+}
+
+// The line that stands in its area, cut after each of its bytes but the last.
+static void try_cuts(struct rooms *tally, int all_calls) {
+    static uint8_t line[PAGE];
+    size_t length = areas[LINE].length;
+    uint64_t refused = refused_by(SORTER_GATE_NUMBER_CUT);
+    memcpy(line, own_start(LINE), length);
+    for (size_t left = 0; left < length; left++, tally->cuts++) {
+        put(LINE, line, left);
+        keep();
+        hold(load_check(), SORTER_GATE_NUMBER_CUT, "a line cut after byte", left);
+        hold(state_bytes(), refused, "a line cut after byte", left);
+        if (all_calls) {
+            hold(make_fresh(), SORTER_GATE_NUMBER_CUT, "a line cut after byte", left);
+            hold(operate(), SORTER_GATE_NUMBER_CUT, "a line cut after byte", left);
+            hold(rewrite(), refused, "a line cut after byte", left);
+        }
+    }
+}
+
+static void try_all_cuts(struct rooms *tally) {
+    for (size_t i = 0; i < sizeof WIDE / sizeof *WIDE; i++) {
+        lend_linked(WIDE[i]);
+        keep();
+        hold(load_check(), SORTER_GATE_ACCEPTED, "a line of objects", WIDE[i]);
+        lend_fresh();
+        put(RECORD, CREATE, sizeof CREATE);
+        fill(ANSWER, SORTER_GATE_ANSWER_BYTES, OLD);
+        fill(OUT, areas[LINE].length, OLD);
+        try_cuts(tally, 1);
+    }
+    for (unsigned objects = MOST_SMALL + 1; objects <= MOST_OBJECTS; objects++) {
+        lend_data(objects);
+        try_cuts(tally, 0);
+    }
+}
+
+void checked_rooms(struct rooms *tally) {
+    trial.input = 0;
+    for (size_t i = 0; i < sizeof ENDS / sizeof *ENDS; i++) {
+        lend_data(ENDS[i]);
+        try_state_lengths(tally);
+        try_answer_lengths(tally);
+    }
+    for (size_t i = 0; i < sizeof FEWER / sizeof *FEWER; i++) {
+        lend_data(FEWER[i]);
+        try_absent(tally);
+    }
+    try_counts(tally);
+    try_all_cuts(tally);
+}
+
+void print_rooms(const struct rooms *tally) {
+    printf("lengths of areas %lu, counts of objects %lu, bytes of absent objects %lu, cut lines %lu\n", tally->lengths,
+           tally->counts, tally->absent, tally->cuts);
+}
