@@ -1,8 +1,10 @@
 // The plain gate beside the library on generated calls: the same answers, and the same bytes in all areas and behind
 // them. Half of the calls go on from a fresh state, as a controller's do; the others are made on random areas that are
-// well formed, whose descriptors lead further. Every number must be answered, and every code accepted and refused by
-// each of the questions that are put to it alone (18 to 20), and a line rewritten with each kind of answer, or nothing
-// was compared.
+// well formed, whose descriptors lead further. Lines of at most 96 objects and wider ones are two kinds, and each kind
+// gets state areas of both lengths. For each kind every number must be answered, and every code accepted and refused by
+// each of the questions that are put to it alone (18 to 20), a line rewritten and its state area's length told with
+// each kind of answer, and an area of the other kind's length refused by 7; and of eight calls at least one has a wide
+// line. Otherwise nothing was compared.
 //   agree CALLS SEED   prints how many calls were compared; to be called in the repository's root
 #include <inttypes.h>
 #include <stdio.h>
@@ -15,18 +17,24 @@
 #include "plain/plain.h"
 #include "sorter_gate.h"
 
-enum { NUMBERS = 21, CODES = 13, KINDS = 3, SESSION = 64, ROOM = 2048, MARGIN = 64 };
-enum call { LOAD_CHECK, FRESH, OPERATE, REWRITE };
+enum { NUMBERS = 21, CODES = 13, KINDS = 3, SESSION = 64, ROOM = 4096, WIDE_IN = 8 };
+enum call { LOAD_CHECK, FRESH, OPERATE, REWRITE, STATE_LENGTH };
+static const char *const CALLS[] = {"load check", "fresh state", "operation", "rewriting", "state length"};
 
 // The areas that a gate may write to, with bytes behind them that it may not.
 struct areas {
     uint8_t state[ROOM], answer[ROOM], out[ROOM];
 };
 
+// What was met on lines of one kind.
+struct met {
+    unsigned long calls, answered[CODES][NUMBERS], rewritten[KINDS], told[KINDS], other_length;
+};
+
 static struct areas by_library, by_plain;
-static uint8_t sound[MOST_LINE], line[MOST_LINE + MARGIN], record[MOST_RECORD + MARGIN];
+static uint8_t sound[ROOM], line[ROOM], record[ROOM];
 static size_t sound_length, line_length, record_length, state_length, answer_length, out_length;
-static unsigned long seen[CODES][NUMBERS], kinds[KINDS];
+static struct met small, wide;
 
 // A number in one byte more than it needs, or a larger one.
 static size_t stretch(uint8_t *bytes, size_t length) {
@@ -37,27 +45,58 @@ static size_t stretch(uint8_t *bytes, size_t length) {
     return length + 1;
 }
 
-// One object more of kind 4, which question 5 may have something against.
-static void harden(uint8_t *bytes) {
-    if (bytes[OBJECTS_AT]) {
-        bytes[5 + 3 * below(bytes[OBJECTS_AT])] = HARDCODED;
+// A copy of the session's line with one object more of kind 4, which question 5 may have something against; with one
+// more in the count of objects, which may pass a limit; or with an entry that may.
+static void spoil_line(void) {
+    size_t kind = below(4);
+    if (kind == 0 && objects_of(sound)) {
+        line[object_in_line(sound, 1 + (unsigned)below(objects_of(sound))) - sound] = HARDCODED;
+    } else if (kind == 1) {
+        line[OBJECTS_AT]++;
+    } else {
+        spoil_entry(sound, sound_length, line);
     }
 }
 
+// What the line of the session needs.
+static size_t state_bytes(void) {
+    return state_bytes_of(sound);
+}
+
+static int is_wide(void) {
+    return objects_of(sound) > MOST_SMALL;
+}
+
 static uint64_t library_call(enum call call) {
-    return call == LOAD_CHECK ? gate_load_check(line, line_length)
-           : call == FRESH    ? gate_fresh(line, line_length, by_library.state, state_length)
-           : call == REWRITE  ? gate_rewrite(line, line_length, by_library.out, out_length)
-                              : gate_operate(line, line_length, by_library.state, state_length, record, record_length,
-                                             by_library.answer, answer_length);
+    switch (call) {
+    case LOAD_CHECK:
+        return gate_load_check(line, line_length);
+    case FRESH:
+        return gate_fresh(line, line_length, by_library.state, state_length);
+    case OPERATE:
+        return gate_operate(line, line_length, by_library.state, state_length, record, record_length, by_library.answer,
+                            answer_length);
+    case REWRITE:
+        return gate_rewrite(line, line_length, by_library.out, out_length);
+    default:
+        return gate_state_bytes(line, line_length);
+    }
 }
 
 static uint64_t plain_call(enum call call) {
-    return call == LOAD_CHECK ? plain_load_check(line, line_length)
-           : call == FRESH    ? plain_fresh(line, line_length, by_plain.state, state_length)
-           : call == REWRITE  ? plain_rewrite(line, line_length, by_plain.out, out_length)
-                              : plain_operate(line, line_length, by_plain.state, state_length, record, record_length,
-                                              by_plain.answer, answer_length);
+    switch (call) {
+    case LOAD_CHECK:
+        return plain_load_check(line, line_length);
+    case FRESH:
+        return plain_fresh(line, line_length, by_plain.state, state_length);
+    case OPERATE:
+        return plain_operate(line, line_length, by_plain.state, state_length, record, record_length, by_plain.answer,
+                             answer_length);
+    case REWRITE:
+        return plain_rewrite(line, line_length, by_plain.out, out_length);
+    default:
+        return plain_state_bytes(line, line_length);
+    }
 }
 
 static void tell_bytes(const char *name, const uint8_t *bytes, size_t length) {
@@ -70,7 +109,6 @@ static void tell_bytes(const char *name, const uint8_t *bytes, size_t length) {
 
 // All that is needed to make the call again.
 static void tell(enum call call, const struct areas *before, const char *what) {
-    static const char *const CALLS[] = {"load check", "fresh state", "operation", "rewriting"};
     fprintf(stderr, "agree: %s: the plain gate and the library differ in %s\n", CALLS[call], what);
     tell_bytes("line", line, line_length);
     tell_bytes("state", before->state, state_length);
@@ -79,12 +117,16 @@ static void tell(enum call call, const struct areas *before, const char *what) {
     exit(1);
 }
 
-// Counts an answer, by its kind where it has one; whether the call is accepted.
+// Counts an answer, by its kind where it has one, with the lines of its kind; whether the call is accepted.
 static int count(enum call call, uint64_t answer) {
-    if (call == REWRITE) {
-        kinds[SORTER_GATE_KIND(answer) % KINDS]++;
+    struct met *met = is_wide() ? &wide : &small;
+    size_t other = is_wide() ? SORTER_GATE_STATE_BYTES : SORTER_GATE_STATE_BYTES_WIDE;
+    met->calls++;
+    if (call == REWRITE || call == STATE_LENGTH) {
+        (call == REWRITE ? met->rewritten : met->told)[SORTER_GATE_KIND(answer) % KINDS]++;
     } else {
-        seen[call == OPERATE && (answer == 0 || answer > 10) ? record[0] : 0][answer]++;
+        met->answered[call == OPERATE && (answer == 0 || answer > 10) ? record[0] : 0][answer]++;
+        met->other_length += answer == SORTER_GATE_STATE_LENGTH && state_length == other;
     }
     return answer == 0;
 }
@@ -110,11 +152,12 @@ static int compare(enum call call) {
 }
 
 static void begin_session(void) {
-    sound_length = line_length = below(2) ? sound_line(sound) : linked_line(sound);
+    size_t kind = below(8);
+    sound_length = line_length = kind < 3 ? sound_line(sound) : linked_line(sound, kind > 5);
     memcpy(line, sound, sound_length);
     random_bytes(by_library.answer, ROOM);
     random_bytes(by_library.out, ROOM);
-    state_length = SORTER_GATE_STATE_BYTES;
+    state_length = state_bytes();
     compare(FRESH);
 }
 
@@ -122,63 +165,98 @@ static size_t some_length(size_t wanted, size_t kind) {
     return kind > 2 ? wanted : kind == 0 ? 0 : wanted - 1 + below(3);
 }
 
-// One call; what it gets may be spoilt, and a byte of the state that was spoilt in vain is put back.
-static void go_on(size_t step, int from_fresh) {
-    size_t kind = below(32);
-    enum call call = kind == 0                                 ? LOAD_CHECK
-                     : kind == 1 && (step > 40 || !from_fresh) ? FRESH
-                     : kind == 2                               ? REWRITE
-                                                               : OPERATE;
+// The length that the line needs, or now and then one about it or about that of lines of the other kind.
+static size_t some_state_length(void) {
+    size_t lengths[] = {SORTER_GATE_STATE_BYTES, SORTER_GATE_STATE_BYTES_WIDE};
+    return below(50) ? state_bytes() : some_length(lengths[below(2)], below(6));
+}
+
+// What is called: an operation nearly always.
+static enum call some_call(size_t step, int from_fresh) {
+    switch (below(32)) {
+    case 0:
+        return LOAD_CHECK;
+    case 1:
+        return step > 40 || !from_fresh ? FRESH : OPERATE;
+    case 2:
+        return REWRITE;
+    case 3:
+        return STATE_LENGTH;
+    default:
+        return OPERATE;
+    }
+}
+
+// The line and the record of a call, which may be spoilt.
+static void choose_line(void) {
     line_length = any_line(sound, sound_length, line);
     line_length = line_length && below(64) == 0 ? stretch(line, line_length) : line_length;
-    if (line_length == sound_length && below(64) == 0) {
-        harden(line);
+    if (line_length == sound_length && below(16) == 0) {
+        spoil_line();
     }
+}
+
+static void choose_record(size_t step, int from_fresh) {
     record_length = from_fresh && below(8) ? opening_record(sound, step, record) : 0;
-    record_length = !record_length && below(4) == 0 ? transfer_record(sound, sound_length, record) : record_length;
+    record_length = !record_length && below(4) == 0 ? linked_record(sound, sound_length, record) : record_length;
     record_length = record_length ? record_length : any_record(sound, record);
     record_length = record_length && below(32) == 0 ? stretch(record, record_length) : record_length;
+}
+
+// One call; a byte of the state that was spoilt in vain is put back.
+static void go_on(size_t step, int from_fresh) {
+    enum call call = some_call(step, from_fresh);
+    choose_line();
+    choose_record(step, from_fresh);
     if (!from_fresh) {
         random_state(sound, by_library.state);
     }
-    state_length = some_length(SORTER_GATE_STATE_BYTES, below(100));
+    state_length = some_state_length();
     answer_length = some_length(SORTER_GATE_ANSWER_BYTES + below(40), below(100));
     out_length = some_length(line_length ? line_length : 1, below(6));
-    uint8_t *byte = &by_library.state[below(SORTER_GATE_STATE_BYTES)], mask = (uint8_t)(below(50) ? 0 : 1 << below(8));
+    uint8_t *byte = &by_library.state[below(state_bytes())], mask = (uint8_t)(below(50) ? 0 : 1 << below(8));
     *byte ^= mask;
     if (!compare(call)) {
         *byte ^= mask;
     }
 }
 
-static void demand(unsigned long count, const char *what, unsigned which) {
+static void demand(unsigned long count, const char *lines, const char *what, unsigned which) {
     if (!count) {
-        fprintf(stderr, "agree: %s %u never came, so that it was not compared\n", what, which);
+        fprintf(stderr, "agree: on %s lines %s %u never came, so that it was not compared\n", lines, what, which);
         exit(1);
     }
 }
 
-static void demand_all(void) {
+static void demand_codes(const struct met *met, const char *lines) {
+    for (unsigned code = 1; code < CODES; code++) {
+        demand(met->answered[code][0], lines, "an accepted record of code", code);
+    }
+    for (unsigned code = 1; code <= 3; code += 2) {
+        demand(met->answered[code][19], lines, "19 for code", code);
+        demand(met->answered[code + 1][18], lines, "18 for code", code + 1);
+    }
+    for (unsigned code = 10; code <= 12; code++) {
+        demand(met->answered[code][20], lines, "20 for code", code);
+    }
+}
+
+static void demand_all(const struct met *met, const char *lines) {
     for (unsigned number = 0; number < NUMBERS; number++) {
         unsigned long count = 0;
         for (unsigned code = 0; code < CODES; code++) {
-            count += seen[code][number];
+            count += met->answered[code][number];
         }
-        demand(count, "the number", number);
+        demand(count, lines, "the number", number);
     }
     for (unsigned kind = 0; kind < KINDS; kind++) {
-        demand(kinds[kind], "a rewriting of the kind", kind);
+        demand(met->rewritten[kind], lines, "a rewriting of the kind", kind);
     }
-    for (unsigned code = 1; code < CODES; code++) {
-        demand(seen[code][0], "an accepted record of code", code);
+    for (unsigned kind = SORTER_GATE_DONE; kind <= SORTER_GATE_REFUSED; kind++) {
+        demand(met->told[kind], lines, "a state length of the kind", kind);
     }
-    for (unsigned code = 1; code <= 3; code += 2) {
-        demand(seen[code][19], "19 for code", code);
-        demand(seen[code + 1][18], "18 for code", code + 1);
-    }
-    for (unsigned code = 10; code <= 12; code++) {
-        demand(seen[code][20], "20 for code", code);
-    }
+    demand(met->other_length, lines, "the other kind's area, refused by", SORTER_GATE_STATE_LENGTH);
+    demand_codes(met, lines);
 }
 
 int main(int argc, char **argv) {
@@ -197,7 +275,15 @@ int main(int argc, char **argv) {
             go_on(i % SESSION, (int)from_fresh);
         }
     }
-    demand_all();
-    printf("%lu calls of the plain gate and of the library: the same answers, the same areas\n", calls);
+    demand_all(&small, "small");
+    demand_all(&wide, "wide");
+    if (wide.calls < calls / WIDE_IN) {
+        fprintf(stderr, "agree: only %lu of %lu calls have a wide line\n", wide.calls, calls);
+        return 1;
+    }
+    printf(
+        "%lu calls of the plain gate and of the library, %lu on lines of over 96 objects: the same answers, the same "
+        "areas\n",
+        calls, wide.calls);
     return 0;
 }

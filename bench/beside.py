@@ -10,8 +10,9 @@ from measure import TIMES, build, expect, one_call, run, write_case, write_files
 
 TOP = pathlib.Path(__file__).resolve().parent.parent
 PLAIN = sorted(str(path.relative_to(TOP)) for path in (TOP / "bench" / "plain").glob("*.c"))
-SIZES = (("full", {}), ("quarter", lines.QUARTER))
 CHAINS = (1, 10, 40)
+# The largest files of lines of full size and of any.
+FULL_FILE, LONGEST_FILE = "96 objects, all else at its limit", "every count at its limit"
 ORDERS = ("rising", "falling", "shuffled")
 # Generated calls that must agree before anything is counted: a gate that is wrong is no mark.
 AGREEING = 200000
@@ -83,7 +84,7 @@ def cases(size):
 def table(folder):
     made = program(folder)
     print(f"{'beside plain C':<56}{'answer':>6}{'plain C':>10}{'library':>10}{'ratio':>8}")
-    for name, size in SIZES:
+    for name, size in lines.SIZES:
         for label, call, line, record, stated in cases(size):
             label = f"{name}: {label}"
             plain, gate = both(folder, made, label, call, line, record, stated)
@@ -91,12 +92,13 @@ def table(folder):
 
 
 def rewrite_table(folder):
-    """Line files loaded and written again: document 01's and the longest, into an area that is long enough and into
-    none, which asks for the length."""
+    """Line files loaded and written again: document 01's, one of full size and the longest, into an area that is long
+    enough and into none, which asks for the length."""
     made = program(folder)
-    line_l, longest = vectors.row(vectors.L), vectors.full_size()
-    cases = [("document 01's L", line_l, len(line_l), DONE), ("every count at its limit", longest, len(longest), DONE),
-             ("the same, with no area", longest, 0, SHORT)]
+    line_l, large, longest = vectors.row(vectors.L), vectors.full_size(), full.longest()
+    cases = [("document 01's L", line_l, len(line_l), DONE), (FULL_FILE, large, len(large), DONE),
+             ("the same, with no area", large, 0, SHORT), (LONGEST_FILE, longest, len(longest), DONE),
+             ("the longest, with no area", longest, 0, SHORT)]
     print(f"{'rewriting':<36}{'bytes':>6}{'answer':>8}{'plain C':>10}{'library':>10}{'ratio':>8}")
     for label, file, room, kind in cases:
         paths = write_files(folder, file, bytes(room), b"")

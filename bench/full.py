@@ -1,10 +1,12 @@
 """Lines on which the library and the plain gate are compared: every value has six entries, whatever is active."""
 import random
 
-from lines import BOTH, READ, WRITE, Line
+from lines import BOTH, READ, WIDE, WRITE, Line
 
 # External data at the end of the objects: what drivers write, and copy eight of at once.
 DATA = 9
+# The most entries that a value can have.
+ENTRIES = 6
 
 
 def mixed(devices=16, objects=96, values=47, seed=1):
@@ -30,6 +32,19 @@ def mixed(devices=16, objects=96, values=47, seed=1):
     for n in descriptors:
         line.held[n] = rnd.randrange(first, values + 1)
     return line
+
+
+def longest():
+    """A file of the greatest length that can be accepted: every count at its limit, six entries in every value, and the
+    objects that they name have the largest numbers, of two bytes. A device's value reads what it owns."""
+    line = Line(**WIDE, drivers=WIDE["devices"])
+    last = range(len(line.objects) - len(line.hardcoded) + 1, len(line.objects) + 1)
+    for n, v in enumerate(line.values):
+        named = last[n % len(last)]
+        line.values[v] = [(named, READ, 0) if v in line.hardcoded else (named, BOTH, v)] * ENTRIES
+    for c in line.hardcoded:
+        line.hardcoded[c] = c
+    return line.file()
 
 
 def little(**size):

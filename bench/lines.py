@@ -7,11 +7,15 @@ import random
 import sys
 
 sys.path.insert(0, str(pathlib.Path(__file__).resolve().parent.parent / "tests"))
-from layout import AREA, DEVICES_FROM, DRIVERS_FROM, record_at, row  # noqa: E402
+from layout import DEVICES_FROM, DRIVERS_FROM, MOST_OBJECTS, SMALL_ROOM, area_of, record_at, row  # noqa: E402
 
 READ, WRITE, BOTH = 1, 2, 3
-# Full size is what the constructors below take if nothing is said.
+# Full size is what the constructors below take if nothing is said. It has as many objects as the shorter state area has
+# room for; wide is full size with as many as there may be.
+FULL = {"devices": 16, "objects": SMALL_ROOM, "values": 47}
 QUARTER = {"devices": 4, "objects": 24, "values": 12}
+WIDE = {"devices": 16, "objects": MOST_OBJECTS, "values": 47}
+SIZES = (("full", FULL), ("quarter", QUARTER), ("wide", WIDE))
 # A driver of the one partition, and one that is in another wherever a case needs it.
 AT_HOME, STRANGER = 1, 2
 
@@ -48,7 +52,7 @@ class Line:
         return row(numbers)
 
     def area(self):
-        area = bytearray(AREA)
+        area = bytearray(area_of(len(self.objects)))
         area[1] = area[2] = 1
         place = 0 if self.inactive else 1
         for i in range(self.drivers):
@@ -148,6 +152,10 @@ def undescribed():
     return line
 
 
+# The search whose instructions tests/ratios.py holds to a bound.
+DENSE_WIDE = "dense, wide"
+
+
 def searches():
     """Lines whose closure question 19 searches: a label, the line, and the answer if AT_HOME rewrites."""
     yield "dense", dense(), "0"
@@ -157,4 +165,7 @@ def searches():
     yield "dense, a quarter", dense(**QUARTER), "0"
     yield "longest chain, a quarter", chain(**QUARTER), "0"
     yield "first entry crosses, a quarter", crossing(**QUARTER), "19"
+    yield DENSE_WIDE, dense(**WIDE), "0"
+    yield "longest chain, wide", chain(**WIDE), "0"
+    yield "first entry crosses, wide", crossing(**WIDE), "19"
     yield "one card, nothing described", undescribed(), "0"

@@ -1,5 +1,6 @@
-"""Where the instructions of a call go, at full size: how much more a call takes that gets some questions further, and
-what each function of the library takes by itself. Both show what limits the library (docs/PERFORMANCE.md).
+"""Where the instructions of a call go, at full size and wide: how much more a call takes that gets some questions
+further, and what each function of the library takes by itself. Both show what limits the library
+(docs/PERFORMANCE.md).
 """
 import re
 
@@ -15,16 +16,16 @@ PARTS = [("load the file", r"(config|sound|varint)::"),
          ("copy and clear (the host's C library)", r"__mem")]
 
 
-def steps_table(folder):
+def steps_table(folder, head, size):
     """The same dense state; each call is refused later than the one before."""
     program = build(f"{folder}/calls", "gate", "-Iinclude", "bench/calls.c")
-    line = lines.leaving()
+    line = lines.leaving(**size)
     own, value = line.own(1)[0], len(line.values)
     write = vectors.row([1, 1, 1, own, 0, value])
     cases = [("1 to 8: the file", "short", write, "8"), ("9: the whole area", "operate", b"", "10"),
              ("10 to 16: the record", "operate", vectors.row([7, 1, 1]), "16"),
              ("17 to 19, and the effect", "operate", write, "0")]
-    print(f"{'questions, one after the other':<36}{'answer':>8}{'whole':>10}{'more':>10}")
+    print(f"{head:<36}{'answer':>8}{'whole':>10}{'more':>10}")
     before = 0
     for label, call, record, stated in cases:
         whole, answer = one_call(folder, program, *write_case(folder, line, record), call)
@@ -43,14 +44,14 @@ def by_function(folder, program, paths, times):
     return found
 
 
-def functions_table(folder):
+def functions_table(folder, head, size):
     """One call by its functions: what TIMES + 1 calls take more than one, divided."""
     program = build(f"{folder}/calls", "gate", "-Iinclude", "bench/calls.c")
-    dense = lines.leaving()
+    dense = lines.leaving(**size)
     own, value, last = dense.own(1)[0], len(dense.values), len(dense.objects)
     into_chain = vectors.row([1, 1, 1, last, 0, 2])
     cases = [(dense, vectors.row([1, 1, 1, own, 0, value])), (dense, vectors.row([11, 1])),
-             (lines.chain_out(1), into_chain), (lines.chain_out(40), into_chain)]
+             (lines.chain_out(1, **size), into_chain), (lines.chain_out(40, **size), into_chain)]
     columns = []
     for line, record in cases:
         paths = write_case(folder, line, record)
@@ -62,13 +63,17 @@ def functions_table(folder):
             if part is not None:
                 column[part] += count
         columns.append(column)
-    print(f"{'functions of one call':<40}{'write':>10}{'leave':>10}{'chain 1':>10}{'chain 40':>10}")
+    print(f"{head:<40}{'write':>10}{'leave':>10}{'chain 1':>10}{'chain 40':>10}")
     for (label, _), *counts in zip(PARTS, *columns):
         print(f"{label:<40}" + "".join(f"{n:>10}" for n in counts))
     print(f"{'together':<40}" + "".join(f"{sum(column):>10}" for column in columns))
 
 
 def table(folder):
-    steps_table(folder)
+    steps_table(folder, "questions, one after the other", lines.FULL)
     print()
-    functions_table(folder)
+    functions_table(folder, "functions of one call", lines.FULL)
+    print()
+    steps_table(folder, "questions, on the wide line", lines.WIDE)
+    print()
+    functions_table(folder, "functions of one call, wide", lines.WIDE)

@@ -13,8 +13,10 @@ import tempfile
 TOP = pathlib.Path(__file__).resolve().parent.parent
 sys.path.insert(0, str(TOP / "tests"))
 import beside  # noqa: E402
+import full  # noqa: E402
 import lines  # noqa: E402
 import parts  # noqa: E402
+import search  # noqa: E402
 import stack  # noqa: E402
 import vectors  # noqa: E402
 from measure import REFERENCE_TIMES, build, expect, one_call, write_case  # noqa: E402
@@ -25,8 +27,8 @@ CHAINS = (1, 10, 40)
 def load_table(folder):
     program = build(f"{folder}/load", "gate", "bench/load.c", *beside.PLAIN)
     print(f"{'load check':<36}{'bytes':>6}{'answer':>8}{'plain C':>10}{'library':>10}{'ratio':>8}")
-    cases = [("document 01's L", vectors.row(vectors.L), "0"), ("every count at its limit", vectors.full_size(), "0"),
-             ("65,535 bytes, no last one", bytes([255] * 65535), "1")]
+    cases = [("document 01's L", vectors.row(vectors.L), "0"), (beside.FULL_FILE, vectors.full_size(), "0"),
+             (beside.LONGEST_FILE, full.longest(), "0"), ("65,535 bytes, no last one", bytes([255] * 65535), "1")]
     for label, data, stated in cases:
         file = pathlib.Path(folder) / "line.bin"
         file.write_bytes(data)
@@ -34,19 +36,6 @@ def load_table(folder):
         gate, second = one_call(folder, program, file, "gate")
         expect(label, stated, first, second)
         print(f"{label:<36}{len(data):>6}{first:>8}{plain:>10}{gate:>10}{gate / plain:>8.2f}")
-
-
-def search_table(folder):
-    """A write that question 19 searches, beside the same write by a driver whom question 17 refuses just before."""
-    program = build(f"{folder}/calls", "gate", "-Iinclude", "bench/calls.c")
-    print(f"{'search of the closure':<36}{'answer':>8}{'before':>10}{'search':>10}")
-    for label, line, stated in lines.searches():
-        line.strangers.add(lines.STRANGER)
-        before, first = one_call(folder, program, *write_case(folder, line, line.rewrite(lines.STRANGER)), "operate")
-        whole, second = one_call(folder, program, *write_case(folder, line, line.rewrite(lines.AT_HOME)), "operate")
-        expect(f"{label}, before", "17", first)
-        expect(label, stated, second)
-        print(f"{label:<36}{second:>8}{before:>10}{whole - before:>10}")
 
 
 def operate_table(folder):
@@ -90,7 +79,7 @@ def reference_table(folder):
     program = build(f"{folder}/calls", "gate", "-Iinclude", "bench/calls.c")
     reference = vectors.reference_program("calls")
     print(f"{'beside the reference':<42}{'answer':>6}{'reference':>12}{'library':>10}{'ref/lib':>8}")
-    for name, size in (("full", {}), ("quarter", lines.QUARTER)):
+    for name, size in lines.SIZES:
         for label, call, line, record, stated in reference_cases(size):
             label = f"{name}: {label}"
             if line is None:
@@ -104,7 +93,7 @@ def reference_table(folder):
 
 
 TABLES = {"load": load_table, "beside": beside.table, "rewrite": beside.rewrite_table, "growth": beside.growth_table,
-          "search": search_table, "operate": operate_table, "parts": parts.table, "reference": reference_table,
+          "search": search.table, "operate": operate_table, "parts": parts.table, "reference": reference_table,
           "stack": stack.table}
 # The tables that have figures of the plain gate.
 WITH_PLAIN = {"load", "beside", "rewrite", "growth"}

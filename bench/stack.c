@@ -1,8 +1,8 @@
 // The stack that a call takes: each call is made in a thread of its own whose stack was painted before. From the frame
 // of the caller down to the lowest byte that changed is what the call took. Two paints, so that a byte stored with the
 // paint's own value is not missed.
-//   stack LINE AREA RECORD   prints the bytes and the answer of a load check, of a fresh state, of the operation and of
-//                            a rewriting of the line
+//   stack LINE AREA RECORD   prints the bytes and the answer of a load check, of a fresh state, of the operation, of a
+//                            rewriting of the line and of the length of its state area
 #define _POSIX_C_SOURCE 200809L
 #include <inttypes.h>
 #include <pthread.h>
@@ -15,7 +15,7 @@
 
 enum { STACK_BYTES = 1 << 20 };
 
-enum call { LOAD, FRESH, OPERATE, REWRITE };
+enum call { LOAD, FRESH, OPERATE, REWRITE, STATE_LENGTH };
 
 static uint8_t line[4096], area[4096], state[4096], record[4096], answer[SORTER_GATE_ANSWER_BYTES], out[4096];
 static size_t line_len, area_len, record_len;
@@ -34,8 +34,10 @@ static void *work(void *unused) {
         number = gate_fresh(line, line_len, state, area_len);
     } else if (wanted == OPERATE) {
         number = gate_operate(line, line_len, state, area_len, record, record_len, answer, sizeof answer);
-    } else {
+    } else if (wanted == REWRITE) {
         number = gate_rewrite(line, line_len, out, sizeof out);
+    } else {
+        number = gate_state_bytes(line, line_len);
     }
     return NULL;
 }
@@ -83,7 +85,7 @@ int main(int argc, char **argv) {
     line_len = slurp(argv[1], line, sizeof line);
     area_len = slurp(argv[2], area, sizeof area);
     record_len = slurp(argv[3], record, sizeof record);
-    for (enum call call = LOAD; call <= REWRITE; call++) {
+    for (enum call call = LOAD; call <= STATE_LENGTH; call++) {
         measure(call);
     }
     return 0;

@@ -1,4 +1,4 @@
-"""The stack that a call takes, by painting: bench/stack.c on full-size lines, with a record of every code.
+"""The stack that a call takes, by painting: bench/stack.c on full-size and wide lines, with a record of every code.
 
     python3 bench/stack.py      prints the most for each function; fails at an answer that is not the expected one,
                                 below what a call cannot do without, and above the bound of docs/CONTROLLER.md
@@ -15,27 +15,29 @@ import lines  # noqa: E402
 import vectors  # noqa: E402
 from measure import build, run, write_case  # noqa: E402
 
-# 17 KiB: what docs/CONTROLLER.md counts on, before it adds room for the host's own frames and signals; and what a
+# 24 KiB: what docs/CONTROLLER.md counts on, before it adds room for the host's own frames and signals; and what a
 # rewriting of a line file is held to.
-MOST = 17408
+MOST = 24576
 MOST_REWRITE = 16384
 # Every call fills tables of the line on its stack. A measurement of less has not seen the call.
 LEAST = 512
 
 # All names are bound before the first call: the loader would do that on the stack that is measured.
 SOURCES = ("gate", "-pthread", "-Wl,-z,now", "-Iinclude", "bench/stack.c")
-WRAP = "-Wl,--wrap=gate_load_check,--wrap=gate_fresh,--wrap=gate_operate,--wrap=gate_rewrite"
+WRAP = "-Wl," + ",".join(f"--wrap=gate_{name}" for name in ("load_check", "fresh", "operate", "rewrite", "state_bytes"))
 
 # Each call with the most that it may take; the operation's answer is the record's.
-CALLS = {"load check": MOST, "fresh state": MOST, "operation": MOST, "rewriting": MOST_REWRITE}
+CALLS = {"load check": MOST, "fresh state": MOST, "operation": MOST, "rewriting": MOST_REWRITE, "state length": MOST}
 OPERATION = list(CALLS).index("operation")
 CODES = range(1, 13)
+SIZES = (lines.FULL, lines.WIDE)
 
 # Faults by their names in tests/faulty.c, and how what is said of them begins.
 FAULTS = {
     "constant 0": "operation: answer 0, not 10",
     "constant 10": "load check: answer 10, not 0",
     "always 0": "rewriting: answer 0, not",
+    "told 0": "state length: answer 0, not",
     "elsewhere": "load check: less than",
     "deep": "operation: more than",
     "deep-rewrite": "rewriting: more than",
@@ -51,13 +53,19 @@ def described_write(line):
     return [2, 1, 1, line.own(1)[0], 0, 20]
 
 
+def described_read(line):
+    """An own descriptor that the hardcoded value of device 1 reads; any, if there is none."""
+    read = {number for number, _, _ in line.values.get(line.hardcoded[1], [])}
+    return next((number for number in line.own(1) if number in read), line.own(1)[0])
+
+
 def records(line):
     """Records of every code on a line whose last object is external data, and their answers in the three states."""
     last, own = len(line.objects), line.own(1)[0]
     raw = bytes(range(16))
     yield b"", (10, 10, 10)
-    eight = line.own(1)[:5] + line.own(2)[:3]
-    yield vectors.row([1, 1, 8]) + b"".join(vectors.row([n, 0, 20]) for n in eight), (0, 16, 10)
+    eight = (line.own(1)[:5] + line.own(2))[:8]
+    yield vectors.row([1, 1, 8]) + b"".join(vectors.row([n, 0, 20]) for n in eight), (0, 16, 0)
     yield vectors.row([1, 1, 1, last, 1]) + raw, (0, 16, 13)
     for answers, *numbers in (
             ((13, 13, 19), 1, 1, 1, last, 0, 2),
@@ -65,7 +73,7 @@ def records(line):
             ((0, 16, 18), *described_write(line)),
             ((0, 16, 0), 3, 1, 8, *[last, 0] * 8),
             ((0, 16, 0), 3, 1, 1, own, line.own(1)[1]),
-            ((0, 16, 18), 4, 1, 8, *[own, 0] * 8),
+            ((0, 16, 18), 4, 1, 8, *[described_read(line), 0] * 8),
             ((0, 0, 0), 5, 3),
             ((0, 0, 15), 6, 2),
             ((15, 0, 15), 6, 1),
@@ -78,23 +86,24 @@ def records(line):
         yield vectors.row(numbers), answers
 
 
-def states():
+def states(size):
     """Everything active; nothing active, so that activation is carried out; one where 19 refuses a write."""
-    yield lines.leaving()
-    inactive = lines.leaving()
+    yield lines.leaving(**size)
+    inactive = lines.leaving(**size)
     inactive.inactive = True
     yield inactive
-    yield lines.chain_out(40)
+    yield lines.chain_out(40, **size)
 
 
 def rows(program, folder, fault):
     """For each state and record: the record's code, and for each call its bytes, its answer and the one expected."""
     environment = {**os.environ, "GATE_FAULT": fault}
-    for place, line in enumerate(states()):
+    for place, line in (found for size in SIZES for found in enumerate(states(size))):
         for record, answers in records(line):
             told = run(program, *write_case(folder, line, record), env=environment).stdout.split()
             depths, found = [[int(n) for n in told[i::2]] for i in (0, 1)]
-            yield record[:1], list(zip(CALLS, depths, found, (0, 0, answers[place], len(line.file()))))
+            stated = (0, 0, answers[place], len(line.file()), len(line.area()))
+            yield record[:1], list(zip(CALLS, depths, found, stated, strict=True))
 
 
 def faults(row):

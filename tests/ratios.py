@@ -2,7 +2,7 @@
 """Holds the library's instructions to those of the gate in plain C (bench/plain), by callgrind, in one run.
 
     tests/ratios.py            fails if a call takes over a tenth more of the plain gate's than tables/ratios.ini keeps,
-                               or a rewriting more instructions than its bound
+                               or more instructions than its bound, or a search does
     tests/ratios.py --write    keeps what is measured
 
 A ratio does not depend on the clock, and little on the machine. It needs valgrind, and fails without it.
@@ -16,6 +16,10 @@ import tempfile
 TOP = pathlib.Path(__file__).resolve().parent.parent
 sys.path.insert(0, str(TOP / "bench"))
 import beside  # noqa: E402
+import full  # noqa: E402
+import lines  # noqa: E402
+import search  # noqa: E402
+from measure import expect, one_call, write_files  # noqa: E402
 
 KEPT = TOP / "tables" / "ratios.ini"
 HEAD = """\
@@ -25,11 +29,20 @@ HEAD = """\
 [library / plain C]
 """
 # Loading, question 9 with the search behind 19, question 18 with items, and the writer: rows of the table `beside`.
-REWRITE = "full: rewrite the line"
-ROWS = ("full: load check", "full: driver writes data, dense", REWRITE, "quarter: card writes eight items, dense")
+REWRITE, WIDE_WRITE = "full: rewrite the line", "wide: driver writes data, dense"
+ROWS = ("full: load check", "full: driver writes data, dense", REWRITE, "quarter: card writes eight items, dense",
+        "wide: load check", WIDE_WRITE)
 SLOWER = 1.1
-# The instructions that a rewriting of the longest line file may take, whatever the plain gate takes.
+# Rows of the tables `load` and `search`, of which no ratio is kept.
+WIDE_LOAD, WIDE_SEARCH = "longest file: load check", "wide: search, dense"
+# The instructions that the library may take, whatever the plain gate takes: for rewriting a line of full size, and for
+# a load, a search and a whole write on a line of 192 objects.
 MOST_REWRITE = 65000
+MOST_WIDE_LOAD = 50000
+MOST_WIDE_SEARCH = 110000
+MOST_WIDE_WRITE = 175000
+BOUNDS = {REWRITE: MOST_REWRITE, WIDE_LOAD: MOST_WIDE_LOAD, WIDE_SEARCH: MOST_WIDE_SEARCH,
+          WIDE_WRITE: MOST_WIDE_WRITE}
 # Every call of a row is the same, so that few are enough.
 TIMES = 10
 
@@ -38,11 +51,22 @@ def measured():
     """The library's instructions of each row, and how many times those of the plain gate they are."""
     with tempfile.TemporaryDirectory() as folder:
         made = beside.program(folder)
-        for name, size in beside.SIZES:
+        for name, size in lines.SIZES:
             for label, *case in beside.cases(size):
                 if f"{name}: {label}" in ROWS:
                     plain, gate = beside.both(folder, made, label, *case, times=TIMES)
                     yield f"{name}: {label}", gate, gate / plain
+
+
+def bounded():
+    """The library's instructions of the rows that have a bound alone: a load of the longest file, in which all entries
+    name objects by two bytes, and a dense search."""
+    with tempfile.TemporaryDirectory() as folder:
+        made = search.program(folder)
+        count, answer = one_call(folder, made, *write_files(folder, full.longest(), b"", b""), "load", times=TIMES)
+        expect(WIDE_LOAD, "0", answer)
+        label, line, stated = next(case for case in lines.searches() if case[0] == lines.DENSE_WIDE)
+        return {WIDE_LOAD: count, WIDE_SEARCH: search.counted(folder, made, label, line, stated, times=TIMES)[1]}
 
 
 def kept():
@@ -61,8 +85,10 @@ def main():
         counts[row], found[row] = count, ratio
     if set(found) != set(ROWS):
         sys.exit(f"ratios: the table 'beside' lacks {', '.join(set(ROWS) - set(found))}")
-    if counts[REWRITE] > MOST_REWRITE:
-        sys.exit(f"ratios: {REWRITE}: {counts[REWRITE]} instructions, over the bound of {MOST_REWRITE}")
+    counts |= bounded()
+    for row, most in BOUNDS.items():
+        if counts[row] > most:
+            sys.exit(f"ratios: {row}: {counts[row]} instructions, over the bound of {most}")
     if sys.argv[1:]:
         KEPT.write_text(HEAD + "".join(f"{row} = {ratio:.2f}\n" for row, ratio in found.items()), encoding="utf-8")
         return
@@ -75,7 +101,7 @@ def main():
         sys.exit("ratios: the library takes over a tenth more of the plain C gate's instructions than is kept\n"
                  + "\n".join(slow))
     print("ratios:", ", ".join(f"{ratio:.2f} ({row})" for row, ratio in found.items())
-          + f"; a rewriting takes {counts[REWRITE]} instructions, at most {MOST_REWRITE}")
+          + "; instructions: " + ", ".join(f"{counts[row]} of {most} ({row})" for row, most in BOUNDS.items()))
 
 
 if __name__ == "__main__":

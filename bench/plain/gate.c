@@ -7,16 +7,22 @@ uint32_t plain_load_check(const uint8_t *line, size_t line_len) {
     return load(&loaded, line, line_len);
 }
 
+uint64_t plain_state_bytes(const uint8_t *line, size_t line_len) {
+    struct line loaded;
+    uint32_t number = load(&loaded, line, line_len);
+    return number ? REFUSED | number : area_bytes(&loaded);
+}
+
 uint32_t plain_fresh(const uint8_t *line, size_t line_len, uint8_t *state, size_t state_len) {
     struct line loaded;
     uint32_t number = load(&loaded, line, line_len);
     if (number) {
         return number;
     }
-    if (state_len != STATE_BYTES) {
+    if (state_len != area_bytes(&loaded)) {
         return 7;
     }
-    memset(state, 0, STATE_BYTES);
+    memset(state, 0, state_len);
     for (uint32_t card = 1; card <= loaded.cards; card++) {
         state[record_at(loaded.descriptor[card]) + 1] = loaded.hardwired[card];
     }
@@ -132,7 +138,7 @@ uint32_t plain_operate(const uint8_t *line, size_t line_len, uint8_t *state, siz
     if (number) {
         return number;
     }
-    if (state_len != STATE_BYTES) {
+    if (state_len != area_bytes(&loaded)) {
         return 7;
     }
     if (answer_len < ANSWER_BYTES) {

@@ -1,11 +1,15 @@
 // Questions 1 to 6. The file is read once, into columns, whatever the length of its numbers. Nearly all have one byte,
-// so that the three of an object, or of an entry, are tried together, as bytes of one word; where that fails they are
-// read one by one, and the reading goes on behind them.
+// so that the three of an object, or of an entry, are tried together, as bytes of one word; then those of an entry
+// whose object has two bytes, as in lines of many objects a third have. Where that fails they are read one by one, and
+// the reading goes on behind them.
 #include "parts.h"
 
 _Static_assert(MOST_DRIVERS < 32 && MOST_CARDS < 32, "owner numbers are bits of a word");
 _Static_assert(MOST_OBJECTS < 256, "object numbers are bytes of a column");
 _Static_assert(MOST_VALUES < 64, "value numbers are bits of a word");
+
+// The least number that has two bytes.
+enum { TWO_BYTES = 128 };
 
 enum reading read_long(const uint8_t **at, const uint8_t *end, uint32_t *number) {
     const uint8_t *last = *at;
@@ -145,34 +149,69 @@ long_entry(const struct line *line, const uint8_t *at, struct file *file, struct
     return at;
 }
 
-// The least numbers of an entry, each in its byte of a word.
-enum { LEAST = 0x100 | READ << 16 };
+// The numbers of an entry as bytes of a word: the least that they can be, how far they may be above it, and the highest
+// bits of those bytes.
+struct range {
+    uint32_t least, span, highest;
+};
 
-// How far an entry's numbers of one byte may be above the least, each in its byte. For a line without objects that is
-// 255 for the object, which nothing passes.
-static inline uint32_t entry_span(const struct line *line) {
-    uint32_t objects = line->objects < 128 ? line->objects : 127;
-    return 0xff | ((objects - 1) & 0xff) << 8 | (BOTH - READ) << 16 | (uint32_t)line->values << 24;
+// If all have one byte, the word begins a byte before them, which is none of them. Without objects 255 is the object's
+// span, which nothing passes.
+static inline struct range one_byte(const struct line *line) {
+    uint32_t objects = line->objects < TWO_BYTES ? line->objects : TWO_BYTES - 1;
+    uint32_t span = 0xff | ((objects - 1) & 0xff) << 8 | (BOTH - READ) << 16 | (uint32_t)line->values << 24;
+    return (struct range){1 << 8 | READ << 16, span, 0x80808000};
+}
+
+// If the object has two, the word begins with them: they are the number itself, from 128 to 255, and 1.
+static inline struct range two_bytes(const struct line *line) {
+    uint32_t span = (line->objects - TWO_BYTES) | (BOTH - READ) << 16 | (uint32_t)line->values << 24;
+    return (struct range){TWO_BYTES | 1 << 8 | READ << 16, span, 0x80808080};
 }
 
 // Whether the numbers are in range. One that is too small makes the first difference negative in its byte, one that is
 // too large the second, and so sets the byte's highest bit; what it borrows from the bytes above is then of no matter.
-static inline bool in_range(uint32_t word, uint32_t span) {
-    uint32_t above = word - LEAST;
-    return !((above | (span - above)) & 0x80808000);
+static inline bool in_range(uint32_t word, struct range range) {
+    uint32_t above = word - range.least;
+    return !((above | (range.span - above)) & range.highest);
 }
 
-static inline const uint8_t *read_entries(const struct line *line, const uint8_t *at, struct file *file,
-                                          struct entry *to, uint32_t count, uint32_t span) {
+// Stores an entry whose object has two bytes and whose other numbers have one. False if it is no such entry, or if the
+// file's end is so near that the value's other entries might lack bytes.
+static inline bool wide_entry(const struct line *line, const uint8_t *at, const struct file *file, struct entry *to,
+                              struct range two) {
+    if (file->end - at < 4 * MOST_ENTRIES) {
+        return false;
+    }
+    uint32_t word = half_word_at(at), object = word & 0xff;
+    if (!in_range(word, two) || (word >= 1u << 24 && !may_put(line, object, word >> 16))) {
+        return false;
+    }
+    word = (word & 0xffff0000) | object << 8;
+    memcpy(to, &word, sizeof word);
+    return true;
+}
+
+// The ranges for a line's entries; the second only if an object's number can have two bytes.
+struct ranges {
+    struct range one, two;
+    bool wide;
+};
+
+__attribute__((always_inline)) static inline const uint8_t *read_entries(const struct line *line, const uint8_t *at,
+                                                                         struct file *file, struct entry *to,
+                                                                         uint32_t count, struct ranges ranges) {
     const struct entry *stop = to + count;
     if (file->end - at < 3 * count) {
         return long_entry(line, at, file, to, stop);
     }
     for (; to < stop; to++) {
         uint32_t word = half_word_at(at - 1);
-        if (in_range(word, span) && (word < 1u << 24 || may_put(line, word >> 8 & 0xff, word >> 16))) {
+        if (in_range(word, ranges.one) && (word < 1u << 24 || may_put(line, word >> 8 & 0xff, word >> 16))) {
             memcpy(to, &word, sizeof word);
             at += 3;
+        } else if (ranges.wide && wide_entry(line, at, file, to, ranges.two)) {
+            at += 4;
         } else {
             at = long_entry(line, at, file, to, stop);
             if (!at) {
@@ -183,17 +222,26 @@ static inline const uint8_t *read_entries(const struct line *line, const uint8_t
     return at;
 }
 
-static const uint8_t *read_values(struct line *line, const uint8_t *at, struct file *file) {
-    const uint32_t values = line->values, span = entry_span(line);
+__attribute__((always_inline)) static inline const uint8_t *all_values(struct line *line, const uint8_t *at,
+                                                                       struct file *file, struct ranges ranges) {
+    const uint32_t values = line->values;
     line->count[0] = 0;
     for (uint32_t value = 1; value <= values; value++) {
         at = field(at, file, 0, MOST_ENTRIES, &line->count[value]);
-        at = at ? read_entries(line, at, file, line->entries[value], line->count[value], span) : NULL;
+        at = at ? read_entries(line, at, file, line->entries[value], line->count[value], ranges) : NULL;
         if (!at) {
             return NULL;
         }
     }
     return at;
+}
+
+// Compiled for lines with and without such numbers by itself.
+static const uint8_t *read_values(struct line *line, const uint8_t *at, struct file *file) {
+    if (line->objects < TWO_BYTES) {
+        return all_values(line, at, file, (struct ranges){.one = one_byte(line), .wide = false});
+    }
+    return all_values(line, at, file, (struct ranges){one_byte(line), two_bytes(line), true});
 }
 
 // Question 6.

@@ -7,10 +7,11 @@
 #include <stdint.h>
 #include <string.h>
 
-enum { MOST_DRIVERS = 16, MOST_CARDS = 16, MOST_OBJECTS = 96, MOST_VALUES = 47, MOST_ENTRIES = 6, MOST_ITEMS = 8 };
+enum { MOST_DRIVERS = 16, MOST_CARDS = 16, MOST_OBJECTS = 192, MOST_VALUES = 47, MOST_ENTRIES = 6, MOST_ITEMS = 8 };
 enum { PARTITIONS = 64, CONTENT = 16, RECORD = 1 + CONTENT, ANSWER_BYTES = MOST_ITEMS * CONTENT };
 enum { DRIVERS_AT = PARTITIONS, CARDS_AT = DRIVERS_AT + MOST_DRIVERS, RECORDS_AT = CARDS_AT + MOST_CARDS };
-enum { STATE_BYTES = RECORDS_AT + RECORD * MOST_OBJECTS };
+// A line of no more objects has a state area with as many records as this; any other one with as many as can be.
+enum { SMALL_ROOM = 96 };
 
 enum kind { TRANSFER = 1, FUNCTION = 2, DATA = 3, HARDWIRED = 4 };
 enum class { EXTERNAL = 0, BY_DRIVER = 1, BY_CARD = 2 };
@@ -49,6 +50,11 @@ struct line {
     struct entry entries[MOST_VALUES + 1][MOST_ENTRIES];
 };
 
+// The length of the line's state area.
+static inline size_t area_bytes(const struct line *line) {
+    return RECORDS_AT + RECORD * (line->objects <= SMALL_ROOM ? SMALL_ROOM : MOST_OBJECTS);
+}
+
 // An object's record in the state: its partition, then its contents.
 static inline size_t record_at(uint32_t object) {
     return RECORDS_AT - RECORD + (size_t)RECORD * object;
@@ -82,6 +88,9 @@ struct operation {
     uint32_t into[MOST_ITEMS];      // destinations of a read
     const uint8_t *raw[MOST_ITEMS]; // the sixteen bytes of form 1, NULL for form 0
 };
+
+// What stands above the number in an answer that has a kind.
+static const uint64_t REFUSED = UINT64_C(1) << 32, SHORT = UINT64_C(2) << 32;
 
 // A number in up to three bytes, the shortest form, at most 65,535 (question 2); `*at` is moved behind it.
 enum reading { GOT, CUT, BAD };

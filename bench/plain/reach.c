@@ -101,8 +101,9 @@ static void begin(struct search *search, const struct line *line, const uint8_t 
     search->busy = 0;
     memset(search->waiting, 0, sizeof search->waiting);
     memset(search->done, 0, sizeof search->done);
-    memset(search->put, 0, sizeof search->put);
-    memset(search->readers, 0, sizeof search->readers);
+    // Only what the line has: no other object can be named.
+    memset(search->put, 0, (line->objects + 1) * sizeof *search->put);
+    memset(search->readers, 0, (line->objects + 1) * sizeof *search->readers);
 }
 
 // A card comes to its hard-wired value.
@@ -155,7 +156,7 @@ bool stays_inside(const struct line *line, uint8_t *state, const struct operatio
 // The objects that the record takes out.
 static void note_concerned(struct search *search, const struct operation *operation) {
     const struct line *line = search->line;
-    memset(search->concerned, 0, sizeof search->concerned);
+    memset(search->concerned, 0, line->objects + 1);
     if (operation->code == OBJECTS_OUT) {
         for (uint32_t i = 0; i < operation->count; i++) {
             search->concerned[operation->object[i]] = true;
@@ -190,7 +191,8 @@ struct today {
 
 static void describe(const struct line *line, const uint8_t *state, uint32_t card, struct today *today) {
     uint64_t seen = 0, waiting = (uint64_t)1 << line->hardwired[card];
-    memset(today, 0, sizeof *today);
+    memset(today->reads, 0, sizeof today->reads);
+    memset(today->writes, 0, (line->objects + 1) * sizeof *today->writes);
     while (waiting) {
         uint32_t value = (uint32_t)__builtin_ctzll(waiting);
         const struct entry *entry = line->entries[value], *end = entry + line->count[value];

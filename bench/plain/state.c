@@ -51,5 +51,5 @@ bool well_formed(const struct line *line, const uint8_t *state) {
             }
         }
     }
-    return zeros(end, state + STATE_BYTES);
+    return zeros(end, state + area_bytes(line));
 }

@@ -6,9 +6,6 @@
 // The columns hold numbers below 256, which need one byte or two.
 enum { MOST_FILE = 2 * (5 + 3 * MOST_OBJECTS + MOST_CARDS + MOST_VALUES * (1 + 3 * MOST_ENTRIES)) };
 
-// An answer that has a kind.
-static const uint64_t REFUSED = UINT64_C(1) << 32, SHORT = UINT64_C(2) << 32;
-
 static inline uint8_t *put(uint8_t *to, uint32_t number) {
     if (number < 128) {
         *to = (uint8_t)number;
