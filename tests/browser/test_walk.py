@@ -36,10 +36,10 @@ CHOSEN = "document.querySelector('.stop.chosen').id"
 
 
 def plans():
-    """Plans on lines of 5, 40 and 96 objects, the example, and one with long names, each with a name."""
+    """Plans on lines of 5, 40, 96 and 192 objects, the example, and one with long names, each with a name."""
     config, moves = sorters.small()
     yield "small", judge_moves(PROGRAM, config, moves)
-    for name, size in (("middle", dict(cards=7, loose=2)), ("large", dict(cards=16, loose=8, drivers=8))):
+    for name, size in (("middle", dict(cards=7, loose=2)), ("large", sorters.LARGE), ("wide", sorters.WIDE)):
         made = sorters.visit(**size)
         yield name, judge_moves(PROGRAM, made.config, made.rows())
     yield "example", judge_folder(PROGRAM, ROOT / "examples" / "visit")
@@ -79,7 +79,7 @@ class Walk(unittest.TestCase):
 
     def test_sizes(self):
         sizes = {name: len(plan.config.objects) for name, plan in self.plans.items()}
-        self.assertEqual((sizes["small"], sizes["middle"], sizes["large"]), (5, 40, 96))
+        self.assertEqual([sizes[name] for name in ("small", "middle", "large", "wide")], [5, 40, 96, 192])
 
     def test_every_state(self):
         """With the arrow key from the first stop to the last: each object is shown where it is, with what it holds."""
@@ -177,13 +177,15 @@ class Walk(unittest.TestCase):
 
     def test_folding(self):
         """A large line shows what matters, and all of it if wanted; a card by itself, too."""
-        self.open("large", "row-40")
-        few = self.browser.value("document.querySelectorAll('.object').length")
-        self.assertLess(few, 12)
-        self.browser.click("#owner-card-9")
-        self.assertEqual(self.browser.value("document.querySelectorAll('.object').length"), few + 5)
-        self.browser.click("#fold")
-        self.assertEqual(self.browser.value("document.querySelectorAll('.object').length"), 96)
+        shown = "document.querySelectorAll('.object').length"
+        for name, own, count in (("large", 5, 96), ("wide", 11, 192)):
+            self.open(name, "row-40")
+            few = self.browser.value(shown)
+            self.assertLess(few, 12, name)
+            self.browser.click("#owner-card-9")
+            self.assertEqual(self.browser.value(shown), few + own)
+            self.browser.click("#fold")
+            self.assertEqual(self.browser.value(shown), count)
 
     def test_nothing_sticks_out(self):
         """At the width of a desk and of a telephone nothing is wider than the page, nor text than what it is in."""
@@ -261,13 +263,14 @@ class Walk(unittest.TestCase):
             self.assertIn("line.bin", flat)
 
     def test_a_picture_at_full_size(self):
-        """The picture of all 96 objects is printed on one page, an A3."""
-        (self.folder / "picture.svg").write_text(draw_plan(self.plans["large"]), encoding="utf-8")
-        self.browser.open((self.folder / "picture.svg").as_uri())
-        (self.folder / "picture.pdf").write_bytes(self.browser.printed())
-        told = subprocess.run(["pdfinfo", self.folder / "picture.pdf"], capture_output=True, text=True).stdout
-        self.assertRegex(told, r"Pages: +1\n")
-        self.assertRegex(told, r"Page size: +84[12]\S* x 119[01]\S* pts")
+        """The picture of all 96 objects, or 192, is printed on one page, an A3."""
+        for name in ("large", "wide"):
+            (self.folder / "picture.svg").write_text(draw_plan(self.plans[name]), encoding="utf-8")
+            self.browser.open((self.folder / "picture.svg").as_uri())
+            (self.folder / "picture.pdf").write_bytes(self.browser.printed())
+            told = subprocess.run(["pdfinfo", self.folder / "picture.pdf"], capture_output=True, text=True).stdout
+            self.assertRegex(told, r"Pages: +1\n", name)
+            self.assertRegex(told, r"Page size: +84[12]\S* x 119[01]\S* pts", name)
 
 
 if __name__ == "__main__":

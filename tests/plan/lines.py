@@ -1,11 +1,16 @@
 """Random lines and sessions, the same for the same seed. The answers are the program's; nothing here knows them."""
 import random
+from dataclasses import replace
 
 from planner import wording as w
 from planner.config import Config, Device, Entry, Object, Value
 from planner.visit import Item, Move, Pair
 
 PARTITIONS = 3
+# Wide lines have so many objects: the first that is wide, the first whose last number has two bytes, the last two.
+WIDE = (97, 128, 191, 192)
+# Of each card's objects in the largest line so many have numbers of two bytes.
+LARGEST = 4
 
 
 def random_line(seed):
@@ -44,15 +49,35 @@ def entries_of(rng, config, values):
         yield Entry(n, mode, rng.randint(0, values) if stores else 0)
 
 
+def widened(config, count, seed):
+    """The line with external data among its objects, so many that it has `count` in all, its own in the upper third.
+
+    Its last object is still the last one.
+    """
+    rng = random.Random(f"wide {seed}")
+    places = sorted(rng.sample(range(count * 2 // 3, count), len(config.objects) - 1)) + [count]
+    moved = dict(zip(config.objects, places))
+    objects = {n: Object(f"O{n}", w.DATA, w.EXTERNAL, 0) for n in range(1, count + 1)}
+    objects.update({moved[n]: replace(one, name=f"O{moved[n]}") for n, one in config.objects.items()})
+    values = {n: replace(value, entries=tuple(replace(one, object=moved[one.object]) for one in value.entries))
+              for n, value in config.values.items()}
+    return replace(config, objects=objects, values=values)
+
+
+def wide_line(seed):
+    """A random line of one of the wide sizes, whose values name objects of the upper third alone."""
+    return widened(random_line(seed), WIDE[seed % len(WIDE)], seed)
+
+
 def largest_line():
-    """As much of everything as a line may have. Its file is the longest that is accepted."""
+    """As much of everything as a line may have, by the largest numbers. Its file is the longest that is accepted."""
     cards, objects, values = (w.LIMITS[name] for name in ("cards", "objects", "values"))
     places = range(w.LIMITS["entries of a value"])
     config = Config(drivers={n: f"D{n}" for n in range(1, w.LIMITS["drivers"] + 1)})
     for n in range(1, objects + 1):
         config.objects[n] = Object(f"O{n}", w.HARDCODED if n <= cards else w.TRANSFER, w.DEVICE, (n - 1) % cards + 1)
     for n in range(1, values + 1):
-        own = config.owned(w.DEVICE, n)[1:] if n <= cards else ()
+        own = config.owned(w.DEVICE, n)[-LARGEST:] if n <= cards else ()
         config.values[n] = Value(f"V{n}", tuple(Entry(own[k % len(own)], w.READ, 0) if own else
                                                 Entry(objects - k, w.BOTH, values) for k in places))
     config.devices = {n: Device(f"C{n}", n) for n in range(1, cards + 1)}

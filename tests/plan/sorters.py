@@ -1,7 +1,8 @@
 """Sorters of a chosen size with a plan of a service visit, in which rows can be spoiled: who must be refused is known.
 
-Each card has a hard-wired descriptor, a ring, a job, a record and settings. A card's start-up value has it read its
-ring, its running value its record and its job.
+Each card has a hard-wired descriptor, a ring, a job, a record and settings, and in a wide sorter gates, which its
+running value opens. A card's start-up value has it read its ring, its running value its record and its job. The first
+cards' objects have the largest numbers.
 """
 from planner import wording as w
 from planner.config import Config, Device, Entry, Object, Value
@@ -12,19 +13,24 @@ PARTS = (("wiring", w.HARDCODED), ("ring", w.TRANSFER), ("job", w.TRANSFER), ("r
 LOOP, BENCH, ANNEX = 1, 2, 3
 CONTROL, LAPTOP, SPARE = 1, 2, 3
 SORTS = ("Scanner", "Scale", "Diverter", "Label printer of the outfeed, upper level")
+# How large the largest small sorter is, and the largest of all.
+LARGE = dict(cards=16, loose=8, drivers=8)
+WIDE = dict(gates=6, **LARGE)
 
 
 class Sorter:
-    """A line with so many cards, drivers and external objects, and the moves of a visit."""
+    """A line with so many cards, drivers, external objects and gates of each card, and the moves of a visit."""
 
-    def __init__(self, cards, loose, drivers):
+    def __init__(self, cards, loose, drivers, gates):
         self.config = Config(drivers={n: name for n, name in enumerate(
             ("Sorting control", "Service laptop", *(f"Spare desk {k}" for k in range(1, drivers - 1))), 1)})
         self.config.partitions = {LOOP: "Live loop", BENCH: "Test bench", ANNEX: "Annex"}
         names = {n: f"{SORTS[(n - 1) % len(SORTS)]} {n}" for n in range(1, cards + 1)}
-        objects = [Object(f"{name} {part}", kind, w.DEVICE, n) for n, name in names.items() for part, kind in PARTS]
+        self.gates = range(1, gates + 1)
+        objects = [Object(f"{name} gate {k}", w.FUNCTION, w.DEVICE, n) for n, name in names.items() for k in self.gates]
         objects += [Object(f"Lane table {k}", w.DATA, w.EXTERNAL, 0) for k in range(1, loose + 1)]
         objects += [Object(f"List of {name}", w.DATA, w.DRIVER, n) for n, name in self.config.drivers.items()]
+        objects += [Object(f"{names[n]} {part}", kind, w.DEVICE, n) for n in reversed(names) for part, kind in PARTS]
         self.config.objects = dict(enumerate(objects, 1))
         self.number = {one.name: n for n, one in self.config.objects.items()}
         self.names, self.moves = names, []
@@ -41,7 +47,9 @@ class Sorter:
             made.append(Value(f"{name} start-up", (Entry(self.part(card, "ring"), w.READ, 0),)))
         for card, name in self.names.items():
             record, job = self.part(card, "record"), self.part(card, "job")
-            made.append(Value(f"{name} running", (Entry(record, w.BOTH, 0), Entry(job, w.READ, 0))))
+            entries = [Entry(record, w.BOTH, 0), Entry(job, w.READ, 0)]
+            entries += [Entry(self.part(card, f"gate {k}"), w.WRITE, 0) for k in self.gates]
+            made.append(Value(f"{name} running", tuple(entries[:w.LIMITS["entries of a value"]])))
         self.use_second, self.use_third, self.pass_on = range(len(made) + 1, len(made) + 4)
         for card in (2, 3):
             made.append(Value(f"Use the record of {self.names[card]}", (Entry(self.part(card, "record"), w.READ, 0),)))
@@ -108,9 +116,9 @@ EARLY, PASSING, NUMBER = "early", "passing", "number"
 SLIPS = (EARLY, PASSING, NUMBER)
 
 
-def visit(cards=5, loose=2, drivers=3, slips=SLIPS):
+def visit(cards=5, loose=2, drivers=3, gates=0, slips=SLIPS):
     """A sorter with a plan: without slips every row is accepted; each slip has one cause, and some rows that follow."""
-    sorter = Sorter(cards, loose, drivers)
+    sorter = Sorter(cards, loose, drivers, gates)
     sorter.bring_up()
     sorter.service(3, early=EARLY in slips)
     sorter.annex(ANNEX + (NUMBER in slips))

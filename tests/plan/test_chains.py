@@ -4,21 +4,23 @@ from collections import Counter
 from dataclasses import replace
 
 from common import PROGRAM, ROOT
-from lines import random_line, random_visit
+from lines import random_line, random_visit, wide_line
 from planner import wording as w
 from planner.book import concerned
 from planner.chain import BrokenChain, confirm
 from planner.judged import judge_folder, judge_moves
 from planner.reach import chain_sentences, explained_chain, searched_state
 
-SESSIONS = 300
+SESSIONS, WIDE_SESSIONS = 300, 40
 DRIVERS_STORES = {1, 3}
 
 
 def judged_sessions():
-    for seed in range(SESSIONS):
-        config = random_line(seed)
-        yield seed, judge_moves(PROGRAM, config, random_visit(config, seed))
+    """On small lines and on wide ones, each with what tells it from the others."""
+    for make, count in ((random_line, SESSIONS), (wide_line, WIDE_SESSIONS)):
+        for seed in range(count):
+            config = make(seed)
+            yield f"{make.__name__} {seed}", judge_moves(PROGRAM, config, random_visit(config, seed))
 
 
 class Chains(unittest.TestCase):
@@ -48,6 +50,16 @@ class Chains(unittest.TestCase):
                     self.assertEqual(len(chain_sentences(plan.config, step.before, step.move, links)), len(links))
                     lengths[len(links)] += 1
         self.assertGreater(sum(count for length, count in lengths.items() if length > 5), 20, "long chains are rare")
+
+    def test_chains_by_numbers_of_two_bytes(self):
+        """On wide lines a chain goes through objects above 127, and mostly through no others."""
+        found = 0
+        for _, plan in self.plans:
+            for step in plan.steps:
+                if step.answer in (w.OUTSIDE, w.IN_REACH):
+                    links = plan.findings(step)[0].chain
+                    found += min(n for link in links for n in (link.descriptor, link.to) if n) > 127
+        self.assertGreater(found, 60)
 
     def test_what_is_accepted_has_no_chain(self):
         """The search and the book behind it agree with the program where it says yes, too."""

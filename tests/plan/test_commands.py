@@ -11,7 +11,7 @@ from pathlib import Path
 from unittest import mock
 
 from common import GOLDEN, PROGRAM, ROOT, InFolder, plan
-from lines import random_line, random_visit
+from lines import random_line, random_visit, wide_line
 from planner import pack
 from planner import wording as w
 from planner.judged import judge_folder
@@ -121,8 +121,7 @@ class ThereAndBack(InFolder):
         self.assertEqual(Path("alone/session.bin").read_bytes(), b"")
 
     def test_random_lines_and_visits(self):
-        for seed in range(60):
-            config = random_line(seed)
+        for seed, config in enumerate([*map(random_line, range(60)), *map(wide_line, range(8))]):
             here = Path(f"line{seed}")
             here.mkdir()
             files = {"line.bin": pack.line_bytes(config), "session.bin": pack.session_bytes(random_visit(config, seed))}

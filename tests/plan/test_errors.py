@@ -96,6 +96,7 @@ FAULTS = [
 ]
 SEVEN_ENTRIES = "\n".join(["Follow the queue,Job queue,read,,"] * 7)
 SEVENTEEN_DRIVERS = "Service laptop,\n" + "\n".join(f"D{n}" for n in range(3, 18))
+TABLES = "".join(f"Table {n},data,external,\n" for n in range(178))
 # Table, what is changed to what, then the question that refuses the line and what is said about it.
 LINES = [
     ("objects.csv", "Diverter wiring,hard-wired", "Diverter wiring,data",
@@ -114,6 +115,8 @@ LINES = [
      3, "There are 17 drivers; a line has at most 16."),
     ("values.csv", "Follow the queue,Job queue,read,,", SEVEN_ENTRIES,
      3, "Value 'Follow the queue' has 7 entries; a value has at most 6."),
+    ("objects.csv", "Diverter wiring,", TABLES + "Diverter wiring,",
+     3, "There are 193 objects; a line has at most 192."),
 ]
 
 

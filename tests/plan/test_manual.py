@@ -16,6 +16,7 @@ from common import PROGRAM, ROOT, InFolder
 from libraries import missing
 from planner import pack
 from planner import wording as w
+from planner.area import SMALL_ROOM, WIDE_ROOM, WRAPPING, length_for
 from planner.judged import judge_folder
 from planner.visit import Item, Move
 
@@ -123,13 +124,23 @@ class Manual(InFolder):
         wanted = {name: w.LIMITS[limit] for name, limit in names.items()}
         wanted["bytes of what an object holds"] = w.CONTENT_BYTES
         self.assertEqual({name: int(most.replace(",", "")) for name, most in rows}, wanted)
-        self.assertEqual(set(w.LIMITS) - set(names.values()), {"bytes of line.bin", "a number"})
+        told = {"bytes of line.bin", "a number", "objects of a small line"}
+        self.assertEqual(set(w.LIMITS) - set(names.values()), told)
         self.assertIn(f"`long` if the file has more than {w.LIMITS['bytes of line.bin']:,} bytes", self.text)
+        most = w.LIMITS["items of a move"]
         short, long = (len(pack.session_bytes([move])) for move in (
-            Move(2, 5, where=1), Move(2, 1, 1, what=(Item(1, w.RAW_FORM),) * w.LIMITS["items of a move"])))
+            Move(2, 5, where=1), Move(2, 1, 1, what=(Item(w.LIMITS["objects"], w.RAW_FORM),) * most)))
         room = w.LIMITS["bytes of session.bin"]
         self.assertIn(f"A move of named things takes {short} to {long} bytes of `session.bin`:\n{room // long} moves "
                       f"always fit, and {room // short:,} of the shortest.", self.text)
+
+    def test_state_areas(self):
+        """How long a state area is, of which lines, is what `start` takes."""
+        small, wide = (length_for(records) for records in (SMALL_ROOM, WIDE_ROOM))
+        text = " ".join(self.text.split())
+        self.assertIn(f"an area of {small:,} bytes, and of {wide:,} where the line has more than {SMALL_ROOM} objects",
+                      text)
+        self.assertIn(f"{WRAPPING} bytes more", text)
 
     def test_rules(self):
         """Each rule stands on the page, and the program keeps it."""

@@ -20,7 +20,7 @@ from unittest import mock
 
 import sorters
 from common import PROGRAM, ROOT, InFolder, plan
-from lines import random_line, random_visit
+from lines import random_line, random_visit, wide_line
 from planner import cli
 from planner import wording as w
 from planner.causes import origins
@@ -196,8 +196,8 @@ class Moves(unittest.TestCase):
 class States(unittest.TestCase):
     def test_the_data_lead_to_the_books_states(self):
         """As the script does it: what accepted moves set, one after the other; for 19 what the move would set, too."""
-        plans = [judge_moves(PROGRAM, config, random_visit(config, seed))
-                 for seed in range(30) for config in [random_line(seed)]]
+        lines = [*map(random_line, range(30)), *map(wide_line, range(4))]
+        plans = [judge_moves(PROGRAM, config, random_visit(config, seed)) for seed, config in enumerate(lines)]
         shown = 0
         for judged in plans + [example(), judge_folder(PROGRAM, ROOT / "examples" / "today")]:
             shown += States.leads_to_the_book(self, judged)

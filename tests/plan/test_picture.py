@@ -121,16 +121,28 @@ def level_parts(route):
 class FullSize(unittest.TestCase):
     def test_each_picture_prints_on_one_page(self):
         """96 objects and 16 cards: every row, and the end with all objects shown, can be read on A3."""
-        made = sorters.visit(cards=16, loose=8, drivers=8)
+        end = self.drawn(sorters.LARGE, 96)
+        self.assertTrue(end.prints)
+        self.assertIn("@page {size: A3 portrait", end.text)
+
+    def test_of_a_wide_line(self):
+        """192 objects and 16 cards: so can every row, but not the end, which is laid out for one page all the same."""
+        end = self.drawn(sorters.WIDE, 192)
+        self.assertFalse(end.prints)
+        self.assertIn("@page {size: A3 portrait", end.text)
+
+    def drawn(self, size, objects):
+        """The picture of a sorter's end; it is whole, and so is each row's, which can be read on A3."""
+        made = sorters.visit(**size)
         judged = judge_moves(PROGRAM, made.config, made.rows())
-        self.assertEqual((len(judged.config.objects), len(judged.config.devices)), (96, 16))
-        for step in [None, *judged.steps]:
+        self.assertEqual((len(judged.config.objects), len(judged.config.devices)), (objects, 16))
+        for step in [*judged.steps, None]:
             picture = draw(judged, step)
-            self.assertTrue(picture.prints, step)
+            self.assertTrue(picture.prints or step is None, step)
             sheet = ElementTree.fromstring(picture.text)
             Pictures.on_the_sheet(self, sheet)
             self.nothing_overlaps(sheet)
-        self.assertIn("@page {size: A3 portrait", draw(judged).text)
+        return picture
 
     def nothing_overlaps(self, sheet):
         """Groups of objects stand beside or below one another."""

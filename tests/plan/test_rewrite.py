@@ -10,7 +10,7 @@ from pathlib import Path
 import german
 import sorters
 from common import PROGRAM, REWRITE, ROOT, InFolder, plan
-from lines import largest_line, random_line
+from lines import largest_line, random_line, wide_line
 from planner import office, pack, rewriting
 from planner.config import Config
 from planner.disk import FileError
@@ -20,10 +20,10 @@ from planner.rewriting import LOST, OUT
 from test_errors import LINES
 from test_workbooks import SAVED, SUFFIXES, needs_libraries
 
-SEEDS = 300
-SIZES = (dict(), dict(cards=7, loose=2), dict(cards=16, loose=8, drivers=8))
+SEEDS, WIDE_SEEDS = 300, 40
+SIZES = (dict(), dict(cards=7, loose=2), sorters.LARGE, sorters.WIDE)
 # How long the longest line file is that is accepted.
-LONGEST = 1202
+LONGEST = 1773
 # What a line.out held before: there is none, an empty one, one that is longer than any file.
 OLDER = (None, b"", b"\1" * 5000)
 # Programs that fail on a line that is accepted, where an older and longer line.out is; and a part of what tools/rewrite
@@ -121,11 +121,15 @@ class Lines(Rewrites):
         for seed in range(SEEDS):
             with self.subTest(seed):
                 self.given_back(pack.line_bytes(random_line(seed)))
+        for seed in range(WIDE_SEEDS):
+            with self.subTest(f"wide {seed}"):
+                self.given_back(pack.line_bytes(wide_line(seed)))
 
     def test_imported_lines(self):
         """A line.bin made into tables, and these into a line.bin again."""
         configs = [sorters.small()[0], *(sorters.visit(**size).config for size in SIZES), largest_line()]
-        for place, config in enumerate(configs + [random_line(seed) for seed in range(20)]):
+        configs += [random_line(seed) for seed in range(20)] + [wide_line(seed) for seed in range(4)]
+        for place, config in enumerate(configs):
             given, back = Path(f"given{place}.bin"), f"back{place}"
             given.write_bytes(pack.line_bytes(config))
             self.assertEqual(plan("import", given, back)[0], 0)

@@ -4,16 +4,20 @@ import unittest
 from pathlib import Path
 
 from common import PROGRAM, ROOT, InFolder, plan
-from lines import random_line, random_visit
+from lines import random_line, random_visit, wide_line
 from planner import pack
 from planner import wording as w
-from planner.area import AREA_BYTES, CARDS_AT, DRIVERS_AT, MARK, OBJECTS_AT, RECORD, area_bytes, digest, read_area
+from planner.area import (CARDS_AT, DRIVERS_AT, MARK, OBJECTS_AT, RECORD, SMALL_ROOM, area_bytes, digest, length_for,
+                          read_area)
 from planner.config import Config, Device, Entry, Object, Value
 from planner.judged import judge_folder, judge_moves
 from planner.start import bring_up
 from planner.visit import Item, Move
 
 TODAY = Path("examples/today")
+AREA_BYTES = length_for(SMALL_ROOM)
+# What is said of a stored file of another length than the example's line has.
+NEEDED = "has {}; the state area of this line has 1,728, and 1,752 as the example controller stores it"
 # A byte of the example's area, what it is set to, and what is said of it.
 FAULTS = (
     (1, 3, "byte 1: 3 is no standing of a partition"),
@@ -59,8 +63,7 @@ class BringUps(unittest.TestCase):
     def test_states_of_random_sessions(self):
         """With partitions without a driver, destroyed ones, and things that left and kept what they held."""
         kept = alone = 0
-        for seed in range(100):
-            config = random_line(seed)
+        for seed, config in enumerate([*map(random_line, range(100)), *map(wide_line, range(8))]):
             leave = [Move(99, 10, driver) for driver in config.drivers if seed % 2]
             state = judge_moves(PROGRAM, config, random_visit(config, seed) + leave).last_state()
             self.assertTrue(comes_back(config, state), f"seed {seed}")
@@ -107,8 +110,15 @@ class Today(InFolder):
         self.assertEqual(self.start(whole + digest(whole))[0], 0)
         for data, said in ((whole + digest(other), "is damaged: its checksum does not fit"),
                            (other + digest(other), "was stored with another line file than these tables make"),
-                           (self.area[1:], "has 1,727 bytes; a state area has 1,728, and 1,752 as the example "
-                                           "controller stores it")):
+                           (other[1:] + digest(other), NEEDED.format("1,751 bytes")),
+                           (b"x" + other[1:] + digest(other), "does not begin with SGSTATE1, as the example "
+                                                              "controller stores it"),
+                           (self.area[1:], NEEDED.format("1,727 bytes")),
+                           (self.area + bytes(1), NEEDED.format("1,729 bytes")),
+                           (self.area + bytes(1632), NEEDED.format("3,360 bytes, as for a line of more than 96 "
+                                                                   "objects")),
+                           (whole + digest(whole) + bytes(1632), NEEDED.format("3,384 bytes, as for a line of more "
+                                                                               "than 96 objects"))):
             self.assertEqual(self.start(data), (2, "", f"plan: stored: {said}\n"))
 
     def test_an_area_that_is_none_of_this_line(self):

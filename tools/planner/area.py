@@ -1,4 +1,7 @@
-"""The state area that a controller stores: taken apart into a book's state, looked at, and put together again."""
+"""The state area that a controller stores: taken apart into a book's state, looked at, and put together again.
+
+How long it is goes by how many objects the line has, and by nothing else: `room`.
+"""
 from . import wording as w
 from .book import NONE, State
 from .visit import raw_words
@@ -8,12 +11,12 @@ DRIVERS_AT = STANDINGS
 CARDS_AT = DRIVERS_AT + w.LIMITS["drivers"]
 OBJECTS_AT = CARDS_AT + w.LIMITS["cards"]
 RECORD = 1 + w.CONTENT_BYTES
-AREA_BYTES = OBJECTS_AT + RECORD * w.LIMITS["objects"]
+SMALL_ROOM, WIDE_ROOM = w.LIMITS["objects of a small line"], w.LIMITS["objects"]
 NEVER, EXISTING, DESTROYED = range(3)
 # As the example controller stores an area: a mark, a digest of the line file, the area, a digest of all before.
 MARK = b"SGSTATE1"
 DIGEST_BYTES = 8
-WRAPPED_BYTES = len(MARK) + DIGEST_BYTES + AREA_BYTES + DIGEST_BYTES
+WRAPPING = len(MARK) + 2 * DIGEST_BYTES
 IN_AREA = "in the area"
 
 
@@ -29,13 +32,35 @@ def digest(data):
     return total.to_bytes(DIGEST_BYTES, "little")
 
 
-def unwrap(data, line):
+def room(config):
+    """How many object records the area of a line has, those of absent objects included."""
+    return SMALL_ROOM if len(config.objects) <= SMALL_ROOM else WIDE_ROOM
+
+
+def length_for(records):
+    """How long an area of so many object records is."""
+    return OBJECTS_AT + RECORD * records
+
+
+def other_length(config, count):
+    """What is said of a file whose length is not that of the line's area; those of all lines are known."""
+    own, known = length_for(room(config)), {}
+    for records, words in ((SMALL_ROOM, f"at most {SMALL_ROOM}"), (WIDE_ROOM, f"more than {SMALL_ROOM}")):
+        known.update(dict.fromkeys((length_for(records), length_for(records) + WRAPPING), words))
+    sort = f", as for a line of {known[count]} objects" if count in known else ""
+    return (f"has {count:,} bytes{sort}; the state area of this line has {own:,}, and {own + WRAPPING:,} as the "
+            "example controller stores it")
+
+
+def unwrap(data, config, line):
     """The area in a stored file: the plain area, or one with the example controller's mark and checksums."""
-    if len(data) == AREA_BYTES:
+    length = length_for(room(config))
+    if len(data) == length:
         return data
-    if len(data) != WRAPPED_BYTES or not data.startswith(MARK):
-        raise AreaError(f"has {len(data):,} bytes; a state area has {AREA_BYTES:,}, and {WRAPPED_BYTES:,} as the "
-                        "example controller stores it")
+    if len(data) != length + WRAPPING:
+        raise AreaError(other_length(config, len(data)))
+    if not data.startswith(MARK):
+        raise AreaError(f"does not begin with {MARK.decode()}, as the example controller stores it")
     if digest(data[:-DIGEST_BYTES]) != data[-DIGEST_BYTES:]:
         raise AreaError("is damaged: its checksum does not fit")
     body = data[len(MARK):-DIGEST_BYTES]
@@ -56,7 +81,7 @@ def read_area(config, data):
                 state.destroyed[number] = IN_AREA
     state.drivers = places(state, data, DRIVERS_AT, w.LIMITS["drivers"], config.drivers, "driver", faults)
     state.devices = places(state, data, CARDS_AT, w.LIMITS["cards"], config.devices, "card", faults)
-    for number in range(1, w.LIMITS["objects"] + 1):
+    for number in range(1, room(config) + 1):
         at = OBJECTS_AT + RECORD * (number - 1)
         take_object(config, state, number, data[at:at + RECORD], at, faults)
     if faults:
@@ -106,7 +131,7 @@ def take_object(config, state, number, record, at, faults):
 
 def area_bytes(config, state):
     """The area of a state, in the layout of document 01."""
-    data = bytearray(AREA_BYTES)
+    data = bytearray(length_for(room(config)))
     for number in state.created:
         data[number] = DESTROYED if number in state.destroyed else EXISTING
     for start, where in ((DRIVERS_AT, state.drivers), (CARDS_AT, state.devices)):

@@ -3,7 +3,7 @@ from dataclasses import dataclass, replace
 
 from . import disk, pack
 from . import wording as w
-from .area import AREA_BYTES, AreaError, area_bytes, differences, read_area, unwrap
+from .area import AreaError, area_bytes, differences, length_for, read_area, room, unwrap
 from .book_plan import place_of, put_table
 from .judged import Plan, judge_moves
 from .report import plural, refused_whole, sentence, step_lines, wrap
@@ -35,7 +35,7 @@ def start(program, folder, path, again=False):
     if alone.verdict.refused_line:
         return Started(place, alone, [], [], False)
     try:
-        area = unwrap(data, pack.line_bytes(config))
+        area = unwrap(data, config, pack.line_bytes(config))
         goal = read_area(config, area)
     except AreaError as fault:
         raise AreaError("\n".join(f"{path}: {text}" for text in str(fault).splitlines())) from None
@@ -74,7 +74,8 @@ def start_lines(started, path, command):
     lines = [f"Made: {started.place}, {plural(len(plan.steps), 'move')}: {len(plan.steps) - len(refused)} accepted, "
              f"{len(refused)} refused."]
     if started.same:
-        return lines + [f"The state after it is that of {path}, byte for byte ({AREA_BYTES:,} bytes)."]
+        return lines + [f"The state after it is that of {path}, byte for byte "
+                        f"({length_for(room(plan.config)):,} bytes)."]
     for step in refused:
         lines += [""] + step_lines(plan, step, f"row {step.move.row} (move {step.place})", command)
     lines += ["", f"The state after it is not that of {path}. It should be:"]

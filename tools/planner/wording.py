@@ -27,7 +27,8 @@ ACCEPTED = 0
 LIMITS = {
     "drivers": 16,
     "cards": 16,
-    "objects": 96,
+    "objects": 192,
+    "objects of a small line": 96,
     "values": 47,
     "entries of a value": 6,
     "items of a move": 8,
@@ -90,7 +91,7 @@ QUESTIONS = {
     4: "Is line.bin used to its last byte?",
     5: "Has each card exactly one hard-wired descriptor, and each hard-wired descriptor a card as owner?",
     6: "Does each hard-wired value name only its own card's objects, none hard-wired, transfer descriptors by read?",
-    7: "Has the state area the right length?",
+    7: "Has the state area the length that the line needs?",
     8: "Is the answer area long enough?",
     9: "Is the state well formed?",
     10: "Can the move be read to its end?",
