@@ -182,8 +182,9 @@ def check_c(copy):
     for place, lines in enumerate(blocks("docs/CONTROLLER.md", "c")):
         head = f"call_{place}(const uint8_t *line, size_t line_len, uint8_t *out, size_t out_len)"
         made += [f"uint64_t {head};", f"uint64_t {head} {{", "(void)out, (void)out_len;", f"{lines}return n;", "}"]
-    if "gate_operate" not in "".join(made) or "gate_rewrite" not in "".join(made):
-        raise Fault("docs/CONTROLLER.md: its C lines do not show a call that judges and one that saves")
+    if any(call not in "".join(made) for call in ("gate_state_bytes", "gate_operate", "gate_rewrite")):
+        raise Fault("docs/CONTROLLER.md: its C lines do not show a call that tells a length, one that judges and one "
+                    "that saves")
     (copy / "snippet.c").write_text("\n".join(made) + "\n", encoding="utf-8")
     words = "gcc -std=c11 -O2 -Wall -Wextra -Werror -Iinclude -c -o snippet.o snippet.c"
     text, status = run(words.split(), copy)
@@ -269,7 +270,7 @@ def check_performance(stack):
                 raise Fault(f"docs/PERFORMANCE.md shows\n{block}and '{STACK}' prints\n{stack}")
             continue
         for row in block.splitlines():
-            label = re.sub("^(full|quarter): ", "", re.split(r" {2,}", row)[0])
+            label = re.sub("^(full|quarter|wide): ", "", re.split(r" {2,}", row)[0])
             if not any(re.fullmatch(pattern, label) for pattern in known):
                 raise Fault(f"docs/PERFORMANCE.md: no table of bench/ has a row '{label}'")
 
