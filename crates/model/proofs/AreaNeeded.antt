@@ -27,11 +27,11 @@ refused-is p q e = ap numberOfAnswer e
 apart : (n q : ℕ) → Length n ≡ Refused q → ⊥
 apart n q e = let k = ap kindOfAnswer e in absurd (omega (arith, k))
 
-needed-length : (q n m : ℕ) → (neededBy q n ≡ Length m) ↔ ((q ≡ 0) × (n ≡ m))
+pub needed-length : (q n m : ℕ) → (neededBy q n ≡ Length m) ↔ ((q ≡ 0) × (n ≡ m))
 needed-length zero n m = ((λ e. (refl, length-is n m e)), λ y. ap Length (y .1))
 needed-length (suc q) n m = ((λ e. absurd (apart m (suc q) (sym e))), λ y. absurd (let z = y .0 in omega arith))
 
-needed-refused : (q n p : ℕ) → (neededBy q n ≡ Refused p) ↔ ((q ≡ p) × (p ≡ 0 → ⊥))
+pub needed-refused : (q n p : ℕ) → (neededBy q n ≡ Refused p) ↔ ((q ≡ p) × (p ≡ 0 → ⊥))
 needed-refused zero n p = ((λ e. absurd (apart n p e)), λ y. absurd (y .1 (sym (y .0))))
 needed-refused (suc q) n p =
     ((λ e. let k = refused-is (suc q) p e in (k, λ z. absurd (omega (arith, k, z)))), λ y. ap Refused (y .0))

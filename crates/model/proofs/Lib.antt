@@ -34,6 +34,7 @@ pub mod Activation
 pub mod Calls
 pub mod TraceLaws
 pub mod Separation
+pub mod Walk
 pub mod Formed
 pub mod FormedStores
 pub mod FormedStatus
@@ -52,3 +53,4 @@ pub mod FileQuestions
 pub mod Demand2Calls
 pub mod FreshAnswers
 pub mod AreaNeeded
+pub mod BadRecord

@@ -136,8 +136,8 @@ pub struct Loaded {
     pub config: Config,
 }
 
-// What became of a configuration that was to be written: the length of its file; the question that it answers with no;
-// or the length that the area would need.
+// An answer that has a kind. Of a configuration that was to be written: the length of its file; the question that it
+// answers with no; or the length that the area would need. Other calls tell another number in place of the first.
 pub enum Written {
     Length(usize),
     Refused(u8),
