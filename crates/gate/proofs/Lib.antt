@@ -1,3 +1,4 @@
 pub mod Fresh
 pub mod Calling
 pub mod Needed
+pub mod Found

@@ -4,7 +4,7 @@ mod call;
 ghost use mathlib.Core.Path.{_≡_};
 ghost use Rattle.model.specs.ConfigFile.{load};
 ghost use lib.ListN.{length};
-ghost use Rattle.model.specs.Gate.{stateBytes};
+ghost use Rattle.model.specs.Gate.{stateBytes, firstBadIn};
 ghost use Rattle.model.specs.Programs.{Made, Operated};
 ghost use Rattle.model.specs.Rewriting.{coded, rewriteAnswer, rewriteArea};
 use model::Written;
@@ -32,6 +32,34 @@ pub extern "C" fn gate_state_bytes(line: &[u8]) -> u64
     }
     let room = room_for(loaded.config.counts.objects);
     writer::code_of(Written::Length(area_length(room)))
+}
+
+// Which object record of a state area is the first that breaks a rule of question 9 (request N3). The answer has a
+// kind: done with its number, from 1, or 0 if none does; or refused with the question, 1 to 6 for the file, 7 for the
+// area's length.
+#[no_mangle]
+pub extern "C" fn gate_first_bad(line: &[u8], state: &[u8]) -> u64
+    ensures { λ r. ⌜ r ≡ coded (firstBadIn (now (line .entry)) (now (state .entry))) ⌝ }
+{
+    let loaded = config::load(line);
+    if loaded.answer != 0 {
+        return writer::code_of(Written::Refused(loaded.answer));
+    }
+    let config = loaded.config;
+    let room = room_for(config.counts.objects);
+    if !state::look::right_length(state, room) {
+        return writer::code_of(Written::Refused(7));
+    }
+    let place = state::walk::first_bad(
+        state,
+        room,
+        config.counts,
+        &config.objects.kind,
+        &config.objects.class,
+        &config.objects.owner,
+        &config.devices.hardcoded,
+    );
+    writer::code_of(Written::Length(place))
 }
 
 // A fresh state in the area lent: questions 1 to 6, then 7. A refusal leaves the area as it was.

@@ -2,7 +2,7 @@
 use Prim.Native.Nat.{ℕ, zero, suc, _+_, _-_, _≤_, _<_}
 use mathlib.Core.Path.{_≡_, refl, sym, ap, _∙_}
 use mathlib.Core.List.{List, [], _∷_}
-use mathlib.Core.Bool.{Bool, true, false, not, _&&_, cond}
+use mathlib.Core.Bool.{Bool, true, false, not, _&&_, _||_, cond}
 use native.Mathlib.Numerals.{add-one}
 use native.Mathlib.Decide.{decLe}
 use native.Mathlib.Omega.{arith}
@@ -21,26 +21,25 @@ use Rattle.model.specs.State.{
   statusOf,
   driverIn,
   deviceIn,
+  existing,
   assigned,
   rightAssignment,
+  rightObject,
   view,
   wellFormed,
+  headFormed,
+  foundOr,
+  firstBad,
 }
 use Rattle.model.specs.declared.Counts.{Counts}
 use Rattle.model.specs.declared.Config.{Config}
-use Rattle.model.proofs.Lists.{and-l, and-r, every-at}
+use Rattle.model.proofs.Lists.{and-l, and-r, every-at, every-intro}
+use Rattle.model.proofs.Walk.{formed-walk}
 use Rattle.model.proofs.SameFile.{every-same}
 use Rattle.model.proofs.StateBytes.{status-byte, driver-byte, device-byte}
 use Rattle.state.specs.Bytes.{AtMost, Highest}
 use Rattle.state.specs.Change.{objectsLent, lent}
-use Rattle.state.specs.Formed.{
-  statusesRight,
-  isAssigned,
-  assignmentRight,
-  assignmentsRight,
-  objectsRight,
-  Housed,
-}
+use Rattle.state.specs.Formed.{statusesRight, assignmentsRight, Housed, Named}
 use Rattle.state.proofs.Places.{view-shape, driver-out, device-out}
 
 -- tests
@@ -58,10 +57,10 @@ and-true true = refl
 and-true false = refl
 
 module _ (p : ℕ → Bool) where
-  pub every-on : (i : ℕ) → every i p ≡ true → p (i + 1) ≡ true → every (i + 1) p ≡ true
+  every-on : (i : ℕ) → every i p ≡ true → p (i + 1) ≡ true → every (i + 1) p ≡ true
   every-on i h e = rw (add-one i, h) (rw (add-one i) at e)
 
-  pub every-off : (n i : ℕ) → i < n → p (i + 1) ≡ false → false ≡ every n p
+  every-off : (n i : ℕ) → i < n → p (i + 1) ≡ false → false ≡ every n p
   every-off zero i h e = absurd (omega arith)
   every-off (suc n) i h e = go (decLe (suc i) n) (λ (l : i < n). every-off n i l e)
     where
@@ -108,55 +107,79 @@ module _ (room : ℕ) (s : List ℕ) where
           all-at (λ v. leb v 2) (view room s .status) e j (omega (arith, view-shape room s .statuses)) in
           leb-true (getD s j 0) 2 (rw (status-byte room s j w) at x)))
 
--- a partition byte
-module _ (b : State) (p : ℕ) where
-  pub assigned-none : p ≡ 0 → true ≡ isAssigned b p
-  unfolding isAssigned
-  assigned-none e = rw (eq-eqb p 0 e)
+-- partition bytes, by a table of what they name
+module _ (b : State) (s : List ℕ) (before : ℕ) where
+  abbrev pub byte : ℕ → ℕ
+  byte n = getD s (before + n) 0
 
-  pub assigned-some : (v : ℕ) → (p ≡ 0 → ⊥) → v ≡ statusOf b p → eqb v 1 ≡ isAssigned b p
-  unfolding isAssigned
-  assigned-some v h e = rw (ne-eqb p 0 h, e)
+  -- the first k are none, or name existing partitions
+  unfoldable pub assignedTo : ℕ → Bool
+  assignedTo k = every k (λ n. assigned b (byte n))
 
-  either-way : (t : Bool) → true ≡ cond t true true
-  either-way true = refl
-  either-way false = refl
+  pub assigned-none : assignedTo 0 ≡ true
+  unfolding assignedTo
+  assigned-none = refl
 
-  pub assignment-none : (many n : ℕ) → p ≡ 0 → true ≡ assignmentRight b many n p
-  unfolding assignmentRight
-  assignment-none many n e = rw (eq-eqb p 0 e) (either-way (leb n many))
+  module _ (t : List ℕ) (named : Named b t) (i : ℕ) (r : Bool) (e : r ≡ eqb (getD t (byte (i + 1)) 0) 1) where
+    told : r ≡ assigned b (byte (i + 1))
+    unfolding Named
+    told = e ∙ named (byte (i + 1))
 
-  pub assignment-absent : (many n : ℕ) → (p ≡ 0 → ⊥) → many < n → false ≡ assignmentRight b many n p
-  unfolding assignmentRight
-  assignment-absent many n e h = rw (lt-leb n many h, ne-eqb p 0 e)
+    pub assigned-on : not r ≡ false → assignedTo i ≡ true → assignedTo (i + 1) ≡ true
+    unfolding assignedTo
+    assigned-on x h = every-on (λ n. assigned b (byte n)) i h (sym told ∙ not-false r x)
 
-  pub assignment-present : (many n : ℕ) (r : Bool) → n ≤ many → r ≡ isAssigned b p → r ≡ assignmentRight b many n p
-  unfolding assignmentRight isAssigned
-  assignment-present many n r h e = rw (le-leb n many h) e
+    pub assignments-off : (many slots : ℕ) → not r ≡ true → i < slots → false ≡ assignmentsRight b s before many slots
+    unfolding assignmentsRight
+    assignments-off many slots x h =
+        every-off (λ n. rightAssignment b many n (byte n)) slots i h
+        (go (leb (i + 1) many) (eqb (byte (i + 1)) 0) (sym told ∙ not-true r x))
+      where
+        go : (q z : Bool) → (z || existing b (byte (i + 1))) ≡ false
+            → cond q (z || existing b (byte (i + 1))) z ≡ false
+        go true z f = f
+        go false true f = f
+        go false false f = refl
 
-module _ (b : State) (s : List ℕ) (before many : ℕ) where
-  pub assignments-none : assignmentsRight b s before many 0 ≡ true
-  unfolding assignmentsRight
-  assignments-none = refl
+  module _ (many slots i : ℕ) (low : i ≤ slots) (high : slots ≤ i) (h : assignedTo i ≡ true) where
+    each : (n : ℕ) → 1 ≤ n → n ≤ slots → assigned b (byte n) ≡ true
+    unfolding assignedTo
+    each n l u = every-at i (λ n. assigned b (byte n)) h n l (omega arith)
 
-  module _ (slots i : ℕ) where
-    pub assignments-end : i ≤ slots → slots ≤ i → assignmentsRight b s before many i ≡ true
-        → true ≡ assignmentsRight b s before many slots
-    assignments-end h k e =
-        let q : i ≡ slots = omega arith in
-        rw (← q) (sym e)
+    pub assignments-many : slots < many → true ≡ assignmentsRight b s before many slots
+    unfolding assignmentsRight
+    assignments-many m =
+        sym (every-intro slots (λ n. rightAssignment b many n (byte n)) (λ n l u.
+        rw (le-leb n many (omega arith)) (each n l u)))
 
-    module _ (t : Bool) (q : t ≡ assignmentRight b many (i + 1) (getD s (before + (i + 1)) 0)) where
-      pub assignments-on : not t ≡ false → assignmentsRight b s before many i ≡ true
-          → assignmentsRight b s before many (i + 1) ≡ true
-      unfolding assignmentsRight assignmentRight
-      assignments-on n h =
-          every-on (λ n. rightAssignment b many n (getD s (before + n) 0)) i h (sym q ∙ not-false t n)
+    -- behind those that there are, the highest byte is 0
+    pub assignments-end : (t : ℕ) → many ≤ slots → Highest s (before + many + 1) (before + slots + 1) t
+        → eqb t 0 ≡ assignmentsRight b s before many slots
+    unfolding assignmentsRight AtMost
+    assignments-end t m top =
+        same-test (eqb t 0) (every slots (λ n. rightAssignment b many n (byte n))) on back
+      where
+        on : eqb t 0 ≡ true → every slots (λ n. rightAssignment b many n (byte n)) ≡ true
+        on e = every-intro slots (λ n. rightAssignment b many n (byte n)) (λ n l u. go n l u (decLe n many))
+          where
+            go : (n : ℕ) → 1 ≤ n → n ≤ slots → Dec (n ≤ many) → rightAssignment b many n (byte n) ≡ true
+            go n l u (yes q) = rw (le-leb n many q) (each n l u)
+            go n l u (no q) =
+                let z : byte n ≡ 0 =
+                omega (arith, eqb-true t 0 e, top .above (before + n) (omega arith) (omega arith)) in
+                rw (lt-leb n many (omega arith)) (eq-eqb (byte n) 0 z)
 
-      pub assignments-off : not t ≡ true → i < slots → false ≡ assignmentsRight b s before many slots
-      unfolding assignmentsRight assignmentRight
-      assignments-off n h =
-          every-off (λ n. rightAssignment b many n (getD s (before + n) 0)) slots i h (sym q ∙ not-true t n)
+        back : every slots (λ n. rightAssignment b many n (byte n)) ≡ true → eqb t 0 ≡ true
+        back e = eq-eqb t 0 (omega (arith, top .least 0 zero-byte))
+          where
+            zero-byte : (j : ℕ) → before + many + 1 ≤ j → j < before + slots + 1 → getD s j 0 ≤ 0
+            zero-byte j l u =
+                let n : ℕ = j - before in
+                let w : rightAssignment b many n (byte n) ≡ true =
+                every-at slots (λ n. rightAssignment b many n (byte n)) e n (omega arith) (omega arith) in
+                let x : eqb (byte n) 0 ≡ true = rw (lt-leb n many (omega arith)) at w in
+                let y : getD s j 0 ≡ byte n = ap (λ (k : ℕ). getD s k 0) (omega arith) in
+                omega (arith, eqb-true (byte n) 0 x, y)
 
 -- every driver and every device is in no partition or in an existing one
 module _ (room : ℕ) (s : List ℕ) (many : ℕ) where
@@ -198,17 +221,6 @@ module _ (room : ℕ) (s : List ℕ) (many : ℕ) where
           (omega arith) q))
       go (no q) = unlisted (deviceIn (view room s) (suc n)) (device-out room s (suc n) (omega arith))
 
-pub housed : (room : ℕ) (s : List ℕ) (drivers devices : ℕ) (u v : Bool)
-    → u ≡ assignmentsRight (view room s) s (driversFrom - 1) drivers mostDrivers → not u ≡ false
-    → v ≡ assignmentsRight (view room s) s (devicesFrom - 1) devices mostDevices → not v ≡ false
-    → Housed (view room s)
-unfolding Housed
-housed room s drivers devices u v f x g y =
-    λ n. (
-      drivers-housed room s drivers (sym f ∙ not-false u x) n,
-      devices-housed room s devices (sym g ∙ not-false v y) n,
-    )
-
 -- the whole
 module _ (room : ℕ) (s : List ℕ) (many : ℕ) where
   drivers-same : assignmentsRight (view room s) s (driversFrom - 1) many mostDrivers
@@ -227,53 +239,84 @@ module _ (room : ℕ) (s : List ℕ) (many : ℕ) where
       (λ c. rightAssignment (view room s) many c (deviceIn (view room s) c))
       (λ c l u. ap (λ (p : ℕ). rightAssignment (view room s) many c p) (sym (device-byte room s c l u)))
 
-module _ (room : ℕ) (counts : Counts) (kind class owner hardcoded s : List ℕ) (t : Bool)
-    (f : t ≡ statusesRight (view room s)) where
-  abbrev parts : Config
-  parts = lent counts kind class owner hardcoded
+-- configurations with the same rules of records have the same walk
+walk-same : (room : ℕ) (c d : Config) (b : State) → ((n : ℕ) → rightObject c b n ≡ rightObject d b n)
+    → firstBad room c b ≡ firstBad room d b
+unfolding firstBad
+walk-same zero c d b h = refl
+walk-same (suc n) c d b h = λ i. foundOr (walk-same n c d b h i) (h (suc n) i) (suc n)
 
-  pub formed-status : not t ≡ true → false ≡ wellFormed room parts (view room s)
-  unfolding wellFormed lent statusesRight
-  formed-status x = rw (← f, not-true t x)
+-- the walk asks of a configuration only what is lent
+walk-lent : (room : ℕ) (counts : Counts) (kind class owner hardcoded : List ℕ) (b : State)
+    → firstBad room (objectsLent (counts .objects) (counts .values) kind class owner hardcoded) b
+    ≡ firstBad room (lent counts kind class owner hardcoded) b
+unfolding objectsLent lent
+walk-lent room counts kind class owner hardcoded b =
+    walk-same room (objectsLent (counts .objects) (counts .values) kind class owner hardcoded)
+    (lent counts kind class owner hardcoded) b (λ n. refl)
 
-  module _ (y : not t ≡ false) (u : Bool)
-      (g : u ≡ assignmentsRight (view room s) s (driversFrom - 1) (counts .drivers) mostDrivers) where
-    pub formed-drivers : not u ≡ true → false ≡ wellFormed room parts (view room s)
-    unfolding wellFormed lent statusesRight
-    formed-drivers x = rw (← f, not-false t y, ← drivers-same room s (counts .drivers), ← g, not-true u x)
+pub walk-whole : (room : ℕ) (counts : Counts) (kind class owner hardcoded : List ℕ) (b : State) (r : ℕ)
+    → r ≡ firstBad room (objectsLent (counts .objects) (counts .values) kind class owner hardcoded) b
+    → r ≡ firstBad room (lent counts kind class owner hardcoded) b
+walk-whole room counts kind class owner hardcoded b r e = e ∙ walk-lent room counts kind class owner hardcoded b
 
-    module _ (z : not u ≡ false) (v : Bool)
-        (h : v ≡ assignmentsRight (view room s) s (devicesFrom - 1) (counts .devices) mostDevices) where
-      pub formed-devices : not v ≡ true → false ≡ wellFormed room parts (view room s)
-      unfolding wellFormed lent statusesRight
-      formed-devices x = rw (
-        ← f,
-        not-false t y,
-        ← drivers-same room s (counts .drivers),
-        ← g,
-        not-false u z,
-        ← devices-same room s (counts .devices),
-        ← h,
-        not-true v x,
+module _ (room : ℕ) (counts : Counts) (s : List ℕ) where
+  abbrev counted : Config
+  counted = lent counts [] [] [] []
+
+  abbrev drivers : Bool
+  drivers = assignmentsRight (view room s) s (driversFrom - 1) (counts .drivers) mostDrivers
+
+  abbrev devices : Bool
+  devices = assignmentsRight (view room s) s (devicesFrom - 1) (counts .devices) mostDevices
+
+  parts-head : headFormed counted (view room s) ≡ ((statusesRight (view room s) && drivers) && devices)
+  unfolding headFormed lent statusesRight
+  parts-head = rw (drivers-same room s (counts .drivers), devices-same room s (counts .devices))
+
+  module _ (t : Bool) (f : t ≡ statusesRight (view room s)) where
+    pub head-status : not t ≡ true → false ≡ headFormed counted (view room s)
+    head-status x = sym (parts-head ∙ rw (← f, not-true t x))
+
+    module _ (y : not t ≡ false) (u : Bool) (g : u ≡ drivers) where
+      pub head-drivers : not u ≡ true → false ≡ headFormed counted (view room s)
+      head-drivers x = sym (parts-head ∙ rw (← f, not-false t y, ← g, not-true u x))
+
+      pub head-devices : (v : Bool) → not u ≡ false → v ≡ devices → v ≡ headFormed counted (view room s)
+      head-devices v x e = e ∙ sym (parts-head ∙ rw (← f, not-false t y, ← g, not-false u x))
+
+  -- a head found good
+  pub housed : (t : Bool) → t ≡ headFormed counted (view room s) → not t ≡ false → Housed (view room s)
+  unfolding Housed
+  housed t e x =
+      λ n. (
+        drivers-housed room s (counts .drivers) (and-r right drivers (and-l (right && drivers) devices all-three)) n,
+        devices-housed room s (counts .devices) (and-r (right && drivers) devices all-three) n,
       )
+    where
+      right : Bool
+      right = statusesRight (view room s)
 
-      pub formed-objects : (r : Bool) → not v ≡ false
-          → r ≡ objectsRight (objectsLent (counts .objects) (counts .values) kind class owner hardcoded) (view room s)
-          room
-          → r ≡ wellFormed room parts (view room s)
-      unfolding wellFormed lent statusesRight objectsRight objectsLent
-      formed-objects r x e =
-          rw (
-            ← f,
-            not-false t y,
-            ← drivers-same room s (counts .drivers),
-            ← g,
-            not-false u z,
-            ← devices-same room s (counts .devices),
-            ← h,
-            not-false v x,
-          )
-          e
+      all-three : ((right && drivers) && devices) ≡ true
+      all-three = sym parts-head ∙ (sym e ∙ not-false t x)
+
+  module _ (kind class owner hardcoded : List ℕ) (t : Bool) (f : t ≡ headFormed counted (view room s)) where
+    abbrev parts : Config
+    parts = lent counts kind class owner hardcoded
+
+    by-walk : wellFormed room parts (view room s) ≡ (t && eqb (firstBad room parts (view room s)) 0)
+    unfolding headFormed lent
+    by-walk = formed-walk room parts (view room s) ∙ rw f
+
+    pub formed-head : not t ≡ true → false ≡ wellFormed room parts (view room s)
+    formed-head x = sym (by-walk ∙ rw (not-true t x))
+
+    pub formed-records : (r : ℕ) → not t ≡ false
+        → r ≡ firstBad room (objectsLent (counts .objects) (counts .values) kind class owner hardcoded) (view room s)
+        → eqb r 0 ≡ wellFormed room parts (view room s)
+    formed-records r x e =
+        ap (λ (k : ℕ). eqb k 0) (e ∙ walk-lent room counts kind class owner hardcoded (view room s))
+        ∙ sym (by-walk ∙ rw (not-false t x))
 
 -- a configuration's parts are as good as the whole
 pub whole-formed : (room : ℕ) (config : Config) (b : State) (r : Bool)
@@ -282,3 +325,12 @@ pub whole-formed : (room : ℕ) (config : Config) (b : State) (r : Bool)
     → r ≡ wellFormed room config b
 unfolding wellFormed lent
 whole-formed room config b r e = e
+
+pub whole-walk : (room : ℕ) (config : Config) (b : State) (r : ℕ)
+    → r ≡ firstBad room (lent (config .counts) (config .objects .kind) (config .objects .class)
+    (config .objects .owner) (config .devices .hardcoded)) b
+    → r ≡ firstBad room config b
+unfolding lent
+whole-walk room config b r e =
+    e ∙ walk-same room (lent (config .counts) (config .objects .kind) (config .objects .class)
+    (config .objects .owner) (config .devices .hardcoded)) config b (λ n. refl)

@@ -14,7 +14,7 @@ use Rattle.model.proofs.Lists.{and-l, and-r, both-true}
 use Rattle.state.specs.Bytes.{wordAt}
 use Rattle.state.specs.Splice.{part}
 use Rattle.state.specs.Formed.{isValue, isValueTo}
-use Rattle.state.proofs.Splicing.{length-part}
+use Rattle.state.proofs.Splicing.{length-part, part-whole}
 use Rattle.state.proofs.Forms.{same-test}
 
 -- sixteen bytes
@@ -74,7 +74,7 @@ word-of s at z =
 -- contents as two words, the second of which begins at their ninth byte
 module _ (s : List ℕ) (at : ℕ) where
   -- all bytes but the first are 0
-  abbrev pub Alone : Type 0
+  abbrev Alone : Type 0
   Alone = (k : ℕ) → 1 ≤ k → k < contentBytes → getD s (at + k) 0 ≡ 0
 
   further : (k j : ℕ) → k ≡ 8 + j → getD s (at + k) 0 ≡ getD s (at + 8 + j) 0
@@ -108,7 +108,7 @@ module _ (s : List ℕ) (at : ℕ) where
   first : getD (part s at contentBytes) 0 0 ≡ getD s at 0
   first = byte 0 (omega arith) ∙ ap (λ (x : ℕ). getD s x 0) (omega arith)
 
-  pub value-on : (v : ℕ) → at + contentBytes ≤ length s → getD s at 0 ≡ v → Alone
+  value-on : (v : ℕ) → at + contentBytes ≤ length s → getD s at 0 ≡ v → Alone
       → isValue (part s at contentBytes) v ≡ true
   unfolding isValue
   value-on v l e z =
@@ -122,7 +122,7 @@ module _ (s : List ℕ) (at : ℕ) where
           let q : suc k < contentBytes = omega (arith, length-part s at contentBytes l) in
           byte (suc k) q ∙ (z (suc k) (omega arith) q ∙ sym (zero-at (contentBytes - 1) k))
 
-  pub value-back : (v : ℕ) → isValue (part s at contentBytes) v ≡ true → (getD s at 0 ≡ v) × Alone
+  value-back : (v : ℕ) → isValue (part s at contentBytes) v ≡ true → (getD s at 0 ≡ v) × Alone
   unfolding isValue
   value-back v e =
       let same : part s at contentBytes ≡ valueBytes v = same-eq (part s at contentBytes) (valueBytes v) e in (
@@ -131,12 +131,12 @@ module _ (s : List ℕ) (at : ℕ) where
       )
 
   module _ (w : ℕ) (e : w ≡ wordAt s at) where
-    pub value-other : (v u : ℕ) → u ≡ v → (w ≡ u → ⊥) → false ≡ isValue (part s at contentBytes) v
+    value-other : (v u : ℕ) → u ≡ v → (w ≡ u → ⊥) → false ≡ isValue (part s at contentBytes) v
     value-other v u q n =
         never (isValue (part s at contentBytes) v) (λ t.
         n (e ∙ (alone-first (value-back v t .1) ∙ (value-back v t .0 ∙ sym q))))
 
-    pub value-rest : (v u x : ℕ) → at + contentBytes ≤ length s → u ≡ v → u < 256 → w ≡ u → x ≡ wordAt s (at + 8)
+    value-rest : (v u x : ℕ) → at + contentBytes ≤ length s → u ≡ v → u < 256 → w ≡ u → x ≡ wordAt s (at + 8)
         → eqb x 0 ≡ isValue (part s at contentBytes) v
     value-rest v u x l q h p f =
         same-test (eqb x 0) (isValue (part s at contentBytes) v)
@@ -146,7 +146,7 @@ module _ (s : List ℕ) (at : ℕ) where
         value-on v l (word-first s at lo ∙ (sym e ∙ (p ∙ q))) (words-alone lo z))
         (λ t. eq-eqb x 0 (f ∙ alone-second (value-back v t .1)))
 
-    pub value-high : (most u : ℕ) → u ≡ most → u < w → false ≡ isValueTo (part s at contentBytes) most
+    value-high : (most u : ℕ) → u ≡ most → u < w → false ≡ isValueTo (part s at contentBytes) most
     unfolding isValueTo
     value-high most u q n =
         never (isValueTo (part s at contentBytes) most) (λ t.
@@ -158,7 +158,7 @@ module _ (s : List ℕ) (at : ℕ) where
         let d : w ≡ getD c 0 0 = e ∙ (alone-first (b .1) ∙ b .0) in
         omega arith)
 
-    pub value-low : (most u x : ℕ) → at + contentBytes ≤ length s → u ≡ most → u < 256 → w ≤ u → x ≡ wordAt s (at + 8)
+    value-low : (most u x : ℕ) → at + contentBytes ≤ length s → u ≡ most → u < 256 → w ≤ u → x ≡ wordAt s (at + 8)
         → eqb x 0 ≡ isValueTo (part s at contentBytes) most
     unfolding isValueTo
     value-low most u x l q h p f =
@@ -173,3 +173,20 @@ module _ (s : List ℕ) (at : ℕ) where
         let c : List ℕ = part s at contentBytes in
         eq-eqb x 0 (f ∙ alone-second
         (value-back (getD c 0 0) (and-r (leb (getD c 0 0) most) (isValue c (getD c 0 0)) t) .1)))
+
+-- the same of sixteen bytes read out by value
+module _ (c : List ℕ) (l : length c ≡ contentBytes) (w : ℕ) (e : w ≡ wordAt c 0) where
+  whole : part c 0 contentBytes ≡ c
+  whole = part-whole c contentBytes l
+
+  pub sixteen-other : (v u : ℕ) → u ≡ v → (w ≡ u → ⊥) → false ≡ isValue c v
+  sixteen-other v u q n = rw whole at (value-other c 0 w e v u q n)
+
+  pub sixteen-rest : (v u x : ℕ) → u ≡ v → u < 256 → w ≡ u → x ≡ wordAt c 8 → eqb x 0 ≡ isValue c v
+  sixteen-rest v u x q h p f = rw whole at (value-rest c 0 w e v u x (omega arith) q h p f)
+
+  pub sixteen-high : (most u : ℕ) → u ≡ most → u < w → false ≡ isValueTo c most
+  sixteen-high most u q n = rw whole at (value-high c 0 w e most u q n)
+
+  pub sixteen-low : (most u x : ℕ) → u ≡ most → u < 256 → w ≤ u → x ≡ wordAt c 8 → eqb x 0 ≡ isValueTo c most
+  sixteen-low most u x q h p f = rw whole at (value-low c 0 w e most u x (omega arith) q h p f)

@@ -1,13 +1,15 @@
 -- The parts of question 9, each as one test that the code answers.
-use Prim.Native.Nat.{ℕ, _+_, _≤_, _<_}
+use Prim.Native.Nat.{ℕ, _+_, _-_, _≤_, _<_}
 use mathlib.Core.Path.{_≡_}
 use mathlib.Core.List.{List}
 use mathlib.Core.Bool.{Bool, true, not, _&&_, _||_}
 use lib.ListN.{getD}
 use lib.Dec.{leb, eqb}
 use Rattle.model.specs.Base.{all, every}
-use Rattle.model.specs.Config.{kindOf, ownerOf, hardcodedOf}
+use Rattle.model.specs.Config.{mostDrivers, mostDevices, kindOf, ownerOf, hardcodedOf}
 use Rattle.model.specs.State.{
+  driversFrom,
+  devicesFrom,
   State,
   statusOf,
   driverIn,
@@ -19,25 +21,16 @@ use Rattle.model.specs.State.{
   rightAssignment,
   sameBytes,
   withOwner,
-  rightObject,
+  view,
 }
 use Rattle.model.specs.declared.Config.{Config}
 
 unfoldable pub statusesRight : State → Bool
 statusesRight b = eqb (statusOf b 0) 0 && all (λ s. leb s 2) (b .status)
 
-unfoldable pub isAssigned : State → ℕ → Bool
-isAssigned b p = assigned b p
-
-unfoldable pub assignmentRight : State → ℕ → ℕ → ℕ → Bool
-assignmentRight b many n p = rightAssignment b many n p
-
--- the first k drivers or devices, the byte of number n at place before + n of the area s; and the first k objects
+-- the first k drivers or devices, the byte of number n at place before + n of the area s
 unfoldable pub assignmentsRight : State → List ℕ → ℕ → ℕ → ℕ → Bool
 assignmentsRight b s before many k = every k (λ n. rightAssignment b many n (getD s (before + n) 0))
-
-unfoldable pub objectsRight : Config → State → ℕ → Bool
-objectsRight config b k = every k (λ n. rightObject config b n)
 
 unfoldable pub isValue : List ℕ → ℕ → Bool
 isValue c v = sameBytes c (valueBytes v)
@@ -66,7 +59,24 @@ unfoldable pub Blank : List ℕ → Type 0
 Blank t = (n : ℕ) → getD t n 0 ≡ 0
 
 -- the table t has the bytes of the numbers 1 to k, which stand behind place `before` of the area s, and else 0
-pub record Homes (s : List ℕ) (before k : ℕ) (t : List ℕ) : Type 0 where
+pub record Numbered (s : List ℕ) (before k : ℕ) (t : List ℕ) : Type 0 where
   pub inside : (n : ℕ) → 1 ≤ n → n ≤ k → getD t n 0 ≡ getD s (before + n) 0
   pub first : getD t 0 0 ≡ 0
   pub behind : (n : ℕ) → k < n → getD t n 0 ≡ 0
+
+-- the table t has 1, existing, for 0 and for every existing partition, and for no other number
+unfoldable pub Named : State → List ℕ → Type 0
+Named b t = (p : ℕ) → eqb (getD t p 0) 1 ≡ assigned b p
+
+-- the partition p of an owned object is that of its owner, and none or existing by the table t, unless it is known that
+-- the owner's is
+unfoldable pub atHome : Bool → List ℕ → ℕ → ℕ → Bool
+atHome housed t p home = eqb p home && (housed || eqb (getD t p 0) 1)
+
+-- what a walk knows of the head: the statuses by what a partition byte names, the partitions of drivers and of devices,
+-- and, if the head was found good, that these are none or exist
+pub record Tables (room : ℕ) (s named drivers devices : List ℕ) (housed : Bool) : Type 0 where
+  pub statuses : Named (view room s) named
+  pub ofDrivers : Numbered s (driversFrom - 1) mostDrivers drivers
+  pub ofDevices : Numbered s (devicesFrom - 1) mostDevices devices
+  pub good : housed ≡ true → Housed (view room s)

@@ -6,6 +6,7 @@ pub mod formed;
 pub mod fresh;
 pub mod look;
 pub mod room;
+pub mod walk;
 
 use model::CONTENT_BYTES;
 use model::MOST_DEVICES;

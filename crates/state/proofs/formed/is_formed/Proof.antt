@@ -1,66 +1,68 @@
--- `state::formed::is_formed` meets its contract: a law for each part of the question. Assumes nothing.
+-- `state::formed::is_formed` meets its contract: the head, or the walk, decides. Assumes nothing.
 use borrow.Author.Needs.{needs}
-use Rattle.state.proofs.Forms.{housed, formed-status, formed-drivers, formed-devices, formed-objects}
+use Rattle.state.proofs.Forms.{housed, formed-head, formed-records}
+use Rattle.state.proofs.Records.{blank, named-made}
 use Rattle.state.proofs.formed.is_formed.Statement.{statement}
 use Rattle.state.proofs.formed.is_formed.Tie as tie
 
-statuses-formed-requires : tie.Need-statuses-formed-requires
-statuses-formed-requires c κs = search needs
+slice-aggregate-copy : tie.Need-slice-aggregate-copy
+slice-aggregate-copy c = search needs
+
+copy-requires : tie.Need-copy-requires
+copy-requires c κs = search needs
+
+array-write-named : tie.Need-array-write-named
+array-write-named c = search needs
+
+is-head-formed-requires : tie.Need-is-head-formed-requires
+is-head-formed-requires c κs = (search needs, search named-made)
 
 returns : tie.Need-returns
-returns c = search formed-status
+returns c = search formed-head
 
-sub-assignments-formed : tie.Need-sub-assignments-formed
-sub-assignments-formed c = search needs
+sub-fill-numbered : tie.Need-sub-fill-numbered
+sub-fill-numbered c = search needs
 
-cast-assignments-formed : tie.Need-cast-assignments-formed
-cast-assignments-formed c = search needs
+fill-numbered-requires : tie.Need-fill-numbered-requires
+fill-numbered-requires c κs = ((search needs, search needs), (search needs, search blank))
 
-assignments-formed-requires : tie.Need-assignments-formed-requires
-assignments-formed-requires c κs = search needs
+sub-fill-numbered-2 : tie.Need-sub-fill-numbered-2
+sub-fill-numbered-2 c = search needs
+
+fill-numbered-requires-2 : tie.Need-fill-numbered-requires-2
+fill-numbered-requires-2 c κs = ((search needs, search needs), (search needs, search blank))
+
+cast-walk : tie.Need-cast-walk
+cast-walk c = search needs
+
+walk-requires : tie.Need-walk-requires
+walk-requires c κs =
+    let e = c .before .before .before .before .before .before .before .before in (
+      search needs,
+      record {
+        statuses = search named-made;
+        ofDrivers = search needs;
+        ofDevices = search needs;
+        good = λ h. housed _ _ _ _ (e .before .is-head-formed .ensures) (e .if1 .left);
+      },
+    )
 
 returns-2 : tie.Need-returns-2
-returns-2 c = search formed-drivers
-
-sub-assignments-formed-2 : tie.Need-sub-assignments-formed-2
-sub-assignments-formed-2 c = search needs
-
-cast-assignments-formed-2 : tie.Need-cast-assignments-formed-2
-cast-assignments-formed-2 c = search needs
-
-assignments-formed-requires-2 : tie.Need-assignments-formed-requires-2
-assignments-formed-requires-2 c κs = search needs
-
-returns-3 : tie.Need-returns-3
-returns-3 c = search formed-devices
-
-cast-objects-formed : tie.Need-cast-objects-formed
-cast-objects-formed c = search needs
-
-objects-formed-requires : tie.Need-objects-formed-requires
-objects-formed-requires c κs =
-    let e = c .before .before .before .before in
-    let u = e .before .assignments-formed in
-    let v = c .before .before .assignments-formed2 in
-    (search needs, housed _ _ _ _ _ _ (u .ensures) (e .if2 .left) (v .ensures) (c .before .if3 .left))
-
-returns-4 : tie.Need-returns-4
-returns-4 c = search formed-objects
+returns-2 c = search formed-records
 
 pub is-formed-spec : {M : Type 1} → statement M
 is-formed-spec =
     tie.close
     (tie.spec
-    statuses-formed-requires
+    slice-aggregate-copy
+    copy-requires
+    array-write-named
+    is-head-formed-requires
     returns
-    sub-assignments-formed
-    cast-assignments-formed
-    assignments-formed-requires
-    returns-2
-    sub-assignments-formed-2
-    cast-assignments-formed-2
-    assignments-formed-requires-2
-    returns-3
-    cast-objects-formed
-    objects-formed-requires
-    returns-4)
+    sub-fill-numbered
+    fill-numbered-requires
+    sub-fill-numbered-2
+    fill-numbered-requires-2
+    cast-walk
+    walk-requires
+    returns-2)

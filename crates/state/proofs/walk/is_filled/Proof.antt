@@ -1,8 +1,8 @@
--- `state::formed::content_formed` meets its contract: a law for each way out. Assumes nothing.
+-- `state::walk::is_filled` meets its contract: a law for each way out. Assumes nothing.
 use borrow.Author.Needs.{needs}
 use Rattle.state.proofs.Records.{content-hardcoded, content-value, content-free}
-use Rattle.state.proofs.formed.content_formed.Statement.{statement}
-use Rattle.state.proofs.formed.content_formed.Tie as tie
+use Rattle.state.proofs.walk.is_filled.Statement.{statement}
+use Rattle.state.proofs.walk.is_filled.Tie as tie
 
 sub-at : tie.Need-sub-at
 sub-at c = search needs
@@ -25,11 +25,17 @@ cast-byte-at c = search needs
 byte-at-requires-3 : tie.Need-byte-at-requires-3
 byte-at-requires-3 c κs = search needs
 
+load-requires : tie.Need-load-requires
+load-requires c κs = search needs
+
 is-value-requires : tie.Need-is-value-requires
 is-value-requires c κs = search needs
 
 returns : tie.Need-returns
 returns c = search content-hardcoded
+
+load-requires-2 : tie.Need-load-requires-2
+load-requires-2 c κs = search needs
 
 is-value-to-requires : tie.Need-is-value-to-requires
 is-value-to-requires c κs = search needs
@@ -40,8 +46,8 @@ returns-2 c = search content-value
 returns-3 : tie.Need-returns-3
 returns-3 c = search content-free
 
-pub content-formed-spec : {M : Type 1} → statement M
-content-formed-spec =
+pub is-filled-spec : {M : Type 1} → statement M
+is-filled-spec =
     tie.close
     (tie.spec
     sub-at
@@ -51,8 +57,10 @@ content-formed-spec =
     byte-at-requires-2
     cast-byte-at
     byte-at-requires-3
+    load-requires
     is-value-requires
     returns
+    load-requires-2
     is-value-to-requires
     returns-2
     returns-3)
