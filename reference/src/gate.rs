@@ -1,4 +1,5 @@
-//! The functions of the gate, as the C interface has them: load check, state bytes, fresh, operate, rewrite.
+//! The functions of the gate, as the C interface has them: load check, state bytes, first bad, fresh, operate,
+//! rewrite.
 
 use crate::closure::{Search, closure};
 use crate::config::{Config, load};
@@ -7,7 +8,7 @@ use crate::limits::{ANSWER_BYTES, CONTENT_BYTES};
 use crate::memory::Memory;
 use crate::operation;
 use crate::questions::{Case, refusal};
-use crate::state::{Contents, State, well_formed};
+use crate::state::{self, Contents, State, well_formed};
 use crate::writer::{Written, coded, write};
 
 /// Puts questions 1 to 6 to a configuration file.
@@ -17,10 +18,25 @@ pub fn load_check(line: &[u8]) -> u32 {
 
 /// Tells the length of a configuration's state area: questions 1 to 6. The answer has the form of `rewrite`'s.
 pub fn state_bytes(line: &[u8]) -> u64 {
-    coded(match load(line) {
-        Err(number) => Written::Refused(number),
-        Ok(config) => Written::Length(config.state_bytes()),
-    })
+    told(load(line).map(|config| config.state_bytes()))
+}
+
+/// Tells the first object record of an area that breaks a rule of question 9, or 0 if none does: questions 1 to 6, then
+/// 7. The answer has the form of `rewrite`'s.
+pub fn first_bad(line: &[u8], area: &[u8]) -> u64 {
+    told(shown(line, area).map(|(config, state)| state::first_bad(&config, &state)))
+}
+
+/// A number that is told, or the first refusal, as one number with its kind.
+fn told(number: Result<usize, u8>) -> u64 {
+    coded(number.map_or_else(Written::Refused, Written::Length))
+}
+
+/// What a file and an area show: questions 1 to 7.
+fn shown(line: &[u8], area: &[u8]) -> Result<(Config, State), u8> {
+    let config = load(line)?;
+    let state = State::from_bytes(&config, area).ok_or(7)?;
+    Ok((config, state))
 }
 
 /// Makes the fresh state: questions 1 to 6, then 7. At any number but 0 the area is as it was.
@@ -58,8 +74,7 @@ pub fn operate_with(search: Search, line: &[u8], state: &mut [u8], record: &[u8]
 pub type Judgement = Result<(State, Vec<Contents>), u8>;
 
 fn judge_areas(search: Search, line: &[u8], state: &[u8], record: &[u8], answer_bytes: usize) -> Judgement {
-    let config = load(line)?;
-    let state = State::from_bytes(&config, state).ok_or(7)?;
+    let (config, state) = shown(line, state)?;
     if answer_bytes < ANSWER_BYTES {
         return Err(8);
     }

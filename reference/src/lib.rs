@@ -25,7 +25,7 @@ pub mod varint;
 pub mod writer;
 
 pub use config::{Config, load};
-pub use gate::{fresh, load_check, operate, rewrite, state_bytes};
+pub use gate::{first_bad, fresh, load_check, operate, rewrite, state_bytes};
 pub use memory::Memory;
 pub use office::{report, rewriting};
 pub use writer::{Written, coded, write};

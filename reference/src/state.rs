@@ -1,5 +1,6 @@
 //! The state (document 01: what a state area shows, the plain book): status of partitions, partitions of drivers,
-//! devices and objects, contents of objects; to and from the bytes of the state area; fresh; well formed (question 9).
+//! devices and objects, contents of objects; to and from the bytes of the state area; fresh; well formed (question 9),
+//! and the first record that is not (request N3).
 
 use crate::config::{Config, Kind, Owner};
 use crate::limits::{CONTENT_BYTES, MAX_DEVICES, MAX_DRIVERS, MAX_PARTITION, RECORD_BYTES, STATUS_BYTES};
@@ -123,13 +124,27 @@ impl State {
     }
 }
 
-/// Question 9. Every record behind the last object's is an absent object's, as many as the area has.
+/// Question 9: the rules of the head, and no record breaks one.
 pub fn well_formed(config: &Config, state: &State) -> bool {
+    head_fits(config, state) && first_bad(config, state) == 0
+}
+
+/// The number, from 1, of the first object record that breaks a rule of Well formed; 0 if none does. It is right
+/// whatever stands in the head.
+pub fn first_bad(config: &Config, state: &State) -> usize {
+    (1..=state.objects.len()).find(|number| !record_fits(config, state, *number)).unwrap_or(0)
+}
+
+/// The rules on the bytes before the records: statuses, drivers' and devices' partitions.
+pub fn head_fits(config: &Config, state: &State) -> bool {
     statuses_fit(state)
         && actors_fit(state, &state.drivers, config.drivers)
         && actors_fit(state, &state.devices, config.devices())
-        && (1..=config.objects.len()).all(|object| object_fits(config, state, object))
-        && state.objects[config.objects.len()..].iter().all(|record| *record == EMPTY)
+}
+
+/// The rules on one record. Every record behind the last object's is an absent object's, as many as the area has.
+pub fn record_fits(config: &Config, state: &State, number: usize) -> bool {
+    if number <= config.objects.len() { object_fits(config, state, number) } else { state.objects[number - 1] == EMPTY }
 }
 
 fn statuses_fit(state: &State) -> bool {

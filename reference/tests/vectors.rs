@@ -1,5 +1,5 @@
-//! The program `vectors` on cases of each kind that request N2 brought, and on those whose areas have another length
-//! now. A row's checksum is worked out here anew.
+//! The program `vectors` on cases of each kind that requests N2 and N3 brought, and on those whose areas have another
+//! length since N2. A row's checksum is worked out here anew.
 
 mod common;
 
@@ -133,9 +133,47 @@ fn cases_that_are_none() {
         (9, operated(&file_l(), 1_728, &[(1_728, 1)])),
         (9, operated(&file_l(), 0, &[(0, 0)])),
         (0, vec![]),
-        (12, file_l()),
+        (13, operated(&file_l(), 1_728, &[])),
     ];
     assert_eq!(rows(&others), [NONE; 5]);
+}
+
+#[test]
+fn the_first_bad_record_and_the_answer_to_an_empty_record() {
+    let last = |objects: usize| 95 + 17 * objects;
+    // L fresh: the values of its hardcoded descriptors stand in the records 1 and 3.
+    let fresh = [(97, 1), (131, 2)];
+    let with = |patch: (usize, u8)| operated(&file_l(), 1_728, &[&fresh[..], &[patch]].concat());
+    let cases = [
+        (operated(&file_l(), 1_728, &fresh), (0, 10)),
+        (operated(&file_l(), 1_728, &fresh[..1]), (3, 9)),
+        (operated(&file_l(), 1_728, &[]), (1, 9)),
+        (with((0, 1)), (0, 9)),
+        (with((66, 1)), (0, 9)),
+        (with((198, 1)), (7, 9)),
+        (with((1_727, 1)), (96, 9)),
+        (with((97, 2)), (1, 9)),
+        (operated(&plain_line(96), 1_728, &[(last(96), 7)]), (0, 10)),
+        (operated(&plain_line(97), 3_360, &[(last(97), 7)]), (0, 10)),
+        (operated(&plain_line(97), 3_360, &[(last(192), 7), (last(98), 7)]), (98, 9)),
+        (operated(&plain_line(191), 3_360, &[(last(192), 7)]), (192, 9)),
+        (operated(&plain_line(97), 1_728, &[(last(96), 7)]), (REFUSED + 7, 7)),
+        (operated(&plain_line(96), 3_360, &[]), (REFUSED + 7, 7)),
+        (operated(&plain_line(96), 4_096, &[]), (REFUSED + 7, 7)),
+        (operated(&file_l(), 0, &[]), (REFUSED + 7, 7)),
+        (operated(&plain_line(193), 0, &[]), (REFUSED + 3, 3)),
+        (operated(&[], 0, &[]), (REFUSED + 1, 1)),
+    ];
+    let (cases, expected): (Vec<_>, Vec<_>) = cases.into_iter().map(|(bytes, row)| ((12, bytes), row)).unzip();
+    assert_eq!(rows(&cases), expected);
+    let none = [
+        operated(&file_l(), 4_097, &[]),
+        operated(&file_l(), 1_728, &[(1_728, 1)]),
+        operated(&file_l(), 1_728, &[(5, 1)])[..51].to_vec(),
+        file_l(),
+        vec![],
+    ];
+    assert_eq!(rows(&none.map(|bytes| (12, bytes))), [NONE; 5]);
 }
 
 #[test]

@@ -1,6 +1,7 @@
 //! State areas of both lengths: what length each file needs, in the answers of both; areas of every length for
 //! configurations of both kinds; files of wide configurations, cut at every byte.
 
+use crate::walks::Walks;
 use crate::{agreed, hex, library};
 use reference::generate::lengths::{EDGES, areas, cuts, wide_worlds};
 use reference::generate::{Call, Rng};
@@ -53,11 +54,12 @@ impl Lengths {
     }
 
     /// Whether both do the same in areas of every length, and with wide files that are cut anywhere.
-    pub fn agree_on_all(&mut self, seed: u64) -> bool {
+    pub fn agree_on_all(&mut self, seed: u64, walks: &mut Walks) -> bool {
         let mut rng = Rng::part(seed, 2);
-        let same = |lengths: &mut Lengths, call: Call| {
+        let mut same = |lengths: &mut Lengths, call: Call| {
             agreed(format_args!("an area of any length, or a file cut anywhere"), &call).is_some()
                 && lengths.agree(&call.line)
+                && walks.agree(&call.line, &call.state)
         };
         EDGES.into_iter().all(|objects| areas(&mut rng, objects).all(|call| same(self, call)))
             && wide_worlds(&mut rng).iter().all(|world| cuts(world).all(|call| same(self, call)))

@@ -17,6 +17,7 @@ unsafe extern "C" {
     ) -> u32;
     fn gate_rewrite(line: *const u8, line_len: usize, out: *mut u8, out_len: usize) -> u64;
     fn gate_state_bytes(line: *const u8, line_len: usize) -> u64;
+    fn gate_first_bad(line: *const u8, line_len: usize, state: *const u8, state_len: usize) -> u64;
 }
 
 /// What a call answered and left.
@@ -83,6 +84,25 @@ fn invoke(call: &Call, state: &mut [u8], answer: &mut [u8]) -> u32 {
 pub fn state_bytes(line: &[u8]) -> u64 {
     // SAFETY: the pointer comes from a slice and is valid for its length, also at length 0.
     unsafe { gate_state_bytes(line.as_ptr(), line.len()) }
+}
+
+/// What looking for the first bad record answered.
+#[derive(Clone, Debug, PartialEq, Eq)]
+pub struct Walked {
+    pub answer: u64,
+    /// Whether the file and the area are as they were, and the bytes before and behind them.
+    pub unchanged: bool,
+}
+
+/// Looks for the first bad record in a copy of an area.
+pub fn first_bad(line: &[u8], state: &[u8]) -> Walked {
+    let (mut file, mut area) = (Guarded::new(line), Guarded::new(state));
+    let (given_line, given_state) = (file.area(), area.area());
+    // SAFETY: both pointers come from slices and are valid for their lengths, also at length 0.
+    let answer =
+        unsafe { gate_first_bad(given_line.as_ptr(), given_line.len(), given_state.as_ptr(), given_state.len()) };
+    let unchanged = file.kept() && area.kept() && file.area() == line && area.area() == state;
+    Walked { answer, unchanged }
 }
 
 /// What rewriting a file answered and left.

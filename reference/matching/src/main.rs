@@ -1,11 +1,12 @@
 //! Compares the proved library with the second implementation over generated calls: the answer, all state bytes and all
-//! answer bytes after every call. The file of every session is rewritten besides (`rewrites`), and every file is asked
-//! for the length of its state area (`lengths`). Ends with 1 at the first difference, or if some number or kind of
-//! answer never occurs.
+//! answer bytes after every call. The file of every session is rewritten besides (`rewrites`), every file is asked for
+//! the length of its state area (`lengths`), and every area for its first bad record (`walks`). Ends with 1 at the
+//! first difference, or if some number or kind of answer never occurs.
 
 mod lengths;
 mod library;
 mod rewrites;
+mod walks;
 
 use lengths::Lengths;
 use library::Result as Outcome;
@@ -14,6 +15,7 @@ use reference::{fresh, load_check, operate};
 use rewrites::Rewrites;
 use std::fmt;
 use std::process::ExitCode;
+use walks::Walks;
 
 const USAGE: &str = "usage: matching [--calls N] [--seed S]";
 
@@ -51,9 +53,11 @@ fn compare(calls: u64, seed: u64) -> ExitCode {
         stream: Calls::new(seed),
         rewrites: Rewrites::new(seed),
         lengths: Lengths::new(),
+        walks: Walks::new(seed),
         seen: [0; NUMBERS],
     };
-    let all_agree = comparison.lengths.agree_on_all(seed) && (1..=calls).all(|place| comparison.agrees_on_next(place));
+    let all_agree = comparison.lengths.agree_on_all(seed, &mut comparison.walks)
+        && (1..=calls).all(|place| comparison.agrees_on_next(place));
     if !all_agree {
         return ExitCode::FAILURE;
     }
@@ -72,16 +76,18 @@ struct Comparison {
     stream: Calls,
     rewrites: Rewrites,
     lengths: Lengths,
+    walks: Walks,
     /// How often each number was answered.
     seen: [u64; NUMBERS],
 }
 
 impl Comparison {
-    /// Whether both sides do the same at the next call, and with the files of the session that it may begin.
+    /// Whether both sides do the same at the next call and find the same in its area, and do the same with the files
+    /// and areas of the session that it may begin.
     fn agrees_on_next(&mut self, place: u64) -> bool {
         let sessions = self.stream.sessions;
         let call = self.stream.next_call();
-        if self.stream.sessions != sessions && !self.agrees_on_files() {
+        if self.stream.sessions != sessions && !self.agrees_on_session() {
             return false;
         }
         let Some(here) = agreed(format_args!("seed {}, call {place}", self.seed), &call) else {
@@ -93,13 +99,13 @@ impl Comparison {
         }
         // Both sides left the same bytes, so one copy carries both on.
         self.stream.carry(&call, &here.state);
-        self.lengths.agree(&call.line)
+        self.lengths.agree(&call.line) && self.walks.agree(&call.line, &call.state)
     }
 
-    fn agrees_on_files(&mut self) -> bool {
+    fn agrees_on_session(&mut self) -> bool {
         let world = self.stream.world();
         self.lengths.count_session(world.config.is_wide());
-        self.rewrites.agree(world, &mut self.lengths)
+        self.rewrites.agree(world, &mut self.lengths) && self.walks.agree_on_damaged(world)
     }
 
     fn print(&self, calls: u64) {
@@ -107,13 +113,14 @@ impl Comparison {
         self.seen.iter().enumerate().for_each(|(number, count)| println!("{number:>3} {count}"));
         self.rewrites.print();
         self.lengths.print();
+        self.walks.print();
         println!("0 differences");
     }
 
     /// What never occurred.
     fn absent(&self) -> Vec<String> {
         let numbers = (0..NUMBERS).filter(|number| self.seen[*number] == 0).map(|number| number.to_string());
-        numbers.chain(self.rewrites.absent()).chain(self.lengths.absent()).collect()
+        numbers.chain(self.rewrites.absent()).chain(self.lengths.absent()).chain(self.walks.absent()).collect()
     }
 }
 

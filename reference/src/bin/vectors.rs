@@ -2,19 +2,21 @@
 //! output. tests/vectors.py makes the cases and says what they are.
 //!
 //! A case is a byte for what is called, its length in two bytes, lowest first, and its bytes. A row is the case's place
-//! from 1, the answer, and a checksum of what the call left (0 where it leaves nothing).
+//! from 1, the answer, and a checksum of what the call left (0 where it leaves nothing); where the first bad record of
+//! an area is asked for, what an operation with an empty record answers there.
 
 use reference::limits::{ANSWER_BYTES, LINE_LIMIT, MAX_COUNT, STATE_BYTES};
 use reference::memory::{OBJECT_PLACES, SMALL_OBJECT_PLACES};
 use reference::operation::{self, Operation, Put};
 use reference::state::{CLEARED, Contents, State, well_formed};
-use reference::{Memory, coded, fresh, load, load_check, operate, state_bytes, write};
+use reference::{Memory, coded, first_bad, fresh, load, load_check, operate, state_bytes, write};
 use std::io::{Read, Write};
 use std::process::ExitCode;
 
 /// What a case calls: the load check; making a fresh state in an area of the right length, of a byte less and of a byte
 /// more; question 9; question 10; the writer of files, for small configurations; making a fresh state in an area of a
-/// given length; an operation in one; the length of a state area; the writer for any configuration.
+/// given length; an operation in one; the length of a state area; the writer for any configuration; the first bad
+/// record of an area of a given length.
 const LOAD: u8 = 1;
 const FRESH: u8 = 2;
 const FORMED: u8 = 3;
@@ -26,6 +28,7 @@ const FRESH_GIVEN: u8 = 8;
 const OPERATE_GIVEN: u8 = 9;
 const STATE_LENGTH: u8 = 10;
 const WRITE: u8 = 11;
+const FIRST_BAD: u8 = 12;
 
 const HEAD_BYTES: usize = 3;
 const PATCH_BYTES: usize = 3;
@@ -40,10 +43,13 @@ const LONGEST_AREA: usize = LINE_LIMIT;
 /// The record of the operation in a given area: creates partition 1.
 const CREATE: [u8; 2] = [5, 1];
 
+/// The record that stops at question 10, if all before are answered with yes.
+const EMPTY_RECORD: [u8; 0] = [];
+
 /// What a case gets that is none: lengths that its bytes have no room for, a place outside its area, an unknown call.
 const NO_CASE: Row = (255, 0);
 
-/// An answer, and the checksum of what was left.
+/// An answer, and the checksum of what was left, or a second answer.
 type Row = (u64, u64);
 
 fn main() -> ExitCode {
@@ -94,6 +100,7 @@ fn judge(call: u8, bytes: &[u8]) -> Option<Row> {
         STATE_LENGTH => Some((state_bytes(bytes), 0)),
         WRITE_SMALL => judge_write(bytes, SMALL_OBJECT_PLACES),
         WRITE => judge_write(bytes, OBJECT_PLACES),
+        FIRST_BAD => judge_first_bad(bytes),
         _ => None,
     }
 }
@@ -148,14 +155,24 @@ fn judge_formed(bytes: &[u8]) -> Option<Row> {
     Some((answer, 0))
 }
 
-/// A file after its length, the area's length, then the bytes of the area that are not 0.
-fn judge_operate(bytes: &[u8]) -> Option<Row> {
+/// A file after its length, the area's length, then the bytes of the area that are not 0: the file and the area.
+fn given_line_and_area(bytes: &[u8]) -> Option<(&[u8], Vec<u8>)> {
     let (line_length, rest) = length(bytes)?;
     let (line, rest) = rest.split_at_checked(line_length)?;
     let (area_length, patches) = given_area(rest)?;
-    let mut area = patched(area_length, patches)?;
+    patched(area_length, patches).map(|area| (line, area))
+}
+
+fn judge_operate(bytes: &[u8]) -> Option<Row> {
+    let (line, mut area) = given_line_and_area(bytes)?;
     let answer = u64::from(operate(line, &mut area, &CREATE, &mut [0; ANSWER_BYTES]));
     Some((answer, checksum(area.into_iter().map(usize::from))))
+}
+
+fn judge_first_bad(bytes: &[u8]) -> Option<Row> {
+    let (line, mut area) = given_line_and_area(bytes)?;
+    let place = first_bad(line, &area);
+    Some((place, u64::from(operate(line, &mut area, &EMPTY_RECORD, &mut [0; ANSWER_BYTES]))))
 }
 
 /// The area's length in two bytes, then a configuration in memory whose columns for objects have so many places; bytes

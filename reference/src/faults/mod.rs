@@ -1,8 +1,10 @@
 //! Judges that are faulty on purpose, each in one point. What is judged right by all of them tells nothing about that
-//! point: `coverage` counts the sessions that notice each. The plain judge knows nothing of this module.
+//! point: `coverage` counts the sessions that notice each. The plain judge knows nothing of this module. No session
+//! shows a state area that is broken, so walks over one (`walks`) stand beside these judges.
 
 mod answers;
 mod searches;
+pub mod walks;
 mod wide;
 
 use crate::closure::{Search, closure, limited};

@@ -61,9 +61,9 @@ fn broken_by(rng: &mut Rng, config: &Config, state: &mut State, rule: usize) {
         }
         12 => other_hardcoded_value(rng, config, state),
         13 => {
-            let used: Vec<usize> = (1..=MAX_PARTITION).filter(|zone| state.status[*zone] == EXISTING).collect();
+            let used = zones(state, |status| status == EXISTING);
             let zone = rng.pick(&used).unwrap_or(1);
-            state.status[zone] = [0, 2, 3][rng.below(3)];
+            state.status[usize::from(zone)] = [0, 2, 3][rng.below(3)];
         }
         _ => (),
     }
@@ -78,9 +78,14 @@ fn other_hardcoded_value(rng: &mut Rng, config: &Config, state: &mut State) {
     }
 }
 
+/// The partitions with a status that is asked for.
+pub(super) fn zones(state: &State, asked: impl Fn(u8) -> bool) -> Vec<u8> {
+    (1..=MAX_PARTITION as u8).filter(|zone| asked(state.status[usize::from(*zone)])).collect()
+}
+
 /// A partition byte that names no existing partition.
-fn wrong_partition(rng: &mut Rng, state: &State) -> u8 {
-    let gone: Vec<u8> = (1..=63).filter(|zone| state.status[usize::from(*zone)] != EXISTING).collect();
+pub(super) fn wrong_partition(rng: &mut Rng, state: &State) -> u8 {
+    let gone = zones(state, |status| status != EXISTING);
     match rng.below(3) {
         0 => [64, 128, 255][rng.below(3)],
         _ => rng.pick(&gone).unwrap_or(64),
@@ -89,9 +94,9 @@ fn wrong_partition(rng: &mut Rng, state: &State) -> u8 {
 
 /// 0 or an existing partition.
 fn some_partition(rng: &mut Rng, state: &State) -> u8 {
-    let mut zones: Vec<u8> = (1..=63).filter(|zone| state.status[usize::from(*zone)] == EXISTING).collect();
-    zones.push(NONE);
-    rng.pick(&zones).unwrap_or(NONE)
+    let mut some = zones(state, |status| status == EXISTING);
+    some.push(NONE);
+    rng.pick(&some).unwrap_or(NONE)
 }
 
 /// A byte other than 0 for one that is not there.

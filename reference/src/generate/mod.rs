@@ -4,6 +4,7 @@
 pub mod areas;
 pub mod broken;
 pub mod calls;
+pub mod damaged;
 pub mod drills;
 pub mod lengths;
 pub mod likely;

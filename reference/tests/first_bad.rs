@@ -1,0 +1,317 @@
+//! Request N3: the first object record of a state area that breaks a rule. Numbers are written out here.
+
+mod common;
+
+use common::desk_after_seven;
+use reference::faults::walks::WALKS;
+use reference::generate::damaged::{Damaged, Line, lines, sound};
+use reference::generate::lengths::plain_line;
+use reference::generate::worlds::world;
+use reference::generate::{Rng, Size, broken};
+use reference::state::{self, State, well_formed};
+use reference::tokens::row;
+use reference::{Config, first_bad, fresh, load, operate};
+use std::collections::BTreeMap;
+
+const REFUSED: u64 = 4_294_967_296;
+
+/// Where an object's record begins.
+fn at(object: usize) -> usize {
+    96 + 17 * (object - 1)
+}
+
+/// The record that is found, and the answer to an operation with an empty record: 10 if the state is well formed. An
+/// answer changes nothing.
+fn found(line: &[u8], area: &[u8]) -> (u64, u32) {
+    let mut after = area.to_vec();
+    let answer = operate(line, &mut after, &[], &mut [0; 128]);
+    assert_eq!(after, area);
+    (first_bad(line, area), answer)
+}
+
+/// The same for the first seven rows of P over L, with bytes of the state changed. Partitions 1 and 2 exist; driver 1,
+/// device 1 and object 5 are in 1, device 2 is in 2; objects 1 and 2 are device 1's, 3 and 4 device 2's, 6 driver 1's.
+fn with_bytes(changes: &[(usize, u8)]) -> (u64, u32) {
+    let mut desk = desk_after_seven();
+    for (place, byte) in changes {
+        assert_ne!(desk.state[*place], *byte, "{changes:?}");
+        desk.state[*place] = *byte;
+    }
+    found(&desk.line, &desk.state)
+}
+
+#[test]
+fn a_record_that_breaks_a_rule_is_named() {
+    assert_eq!(with_bytes(&[]), (0, 10));
+    let partitions =
+        [(1, 2), (1, 0), (2, 0), (2, 2), (2, 3), (3, 1), (4, 0), (5, 3), (5, 64), (5, 255), (6, 0), (6, 2)];
+    for (object, byte) in partitions {
+        assert_eq!(with_bytes(&[(at(object), byte)]), (object as u64, 9), "object {object} in {byte}");
+    }
+    let values = [(1, 0), (1, 2), (1, 6), (2, 6), (2, 255), (3, 1), (4, 6)];
+    for (object, value) in values {
+        assert_eq!(with_bytes(&[(at(object) + 1, value)]), (object as u64, 9), "object {object} holds {value}");
+    }
+    for object in 1..=4 {
+        for byte in 2..=16 {
+            assert_eq!(with_bytes(&[(at(object) + byte, 1)]), (object as u64, 9), "object {object}, byte {byte}");
+        }
+    }
+}
+
+#[test]
+fn contents_of_kinds_2_and_3_and_places_of_external_objects_are_free() {
+    let free = [(at(5) + 1, 255), (at(5) + 16, 1), (at(6) + 2, 200), (at(6) + 16, 255), (at(5), 2), (at(5), 0)];
+    for change in free {
+        assert_eq!(with_bytes(&[change]), (0, 10), "{change:?}");
+    }
+    assert_eq!(with_bytes(&free[..4]), (0, 10));
+    assert_eq!(with_bytes(&[(3, 2)]), (0, 10), "a destroyed partition with nothing in it");
+    assert_eq!(with_bytes(&[(at(2) + 1, 5), (at(4) + 1, 5)]), (0, 10), "values up to K");
+}
+
+#[test]
+fn every_byte_of_an_absent_record_counts() {
+    for (objects, room) in [(0, 96), (1, 96), (95, 96), (97, 192), (128, 192), (191, 192)] {
+        let line = plain_line(objects);
+        for number in [objects + 1, objects + 2, room - 1, room] {
+            for byte in (0..17).filter(|_| (objects + 1..=room).contains(&number)) {
+                let mut area = vec![0; at(room + 1)];
+                area[1] = 1;
+                area[at(number) + byte] = 1;
+                assert_eq!(found(&line, &area), (number as u64, 9), "{objects} objects, record {number}, byte {byte}");
+            }
+        }
+    }
+    // No record is absent, and contents are free.
+    for objects in [96, 192] {
+        let area = [vec![0; 96], [vec![0], vec![255; 16]].concat().repeat(objects)].concat();
+        assert_eq!(found(&plain_line(objects), &area), (0, 10));
+    }
+}
+
+#[test]
+fn every_record_of_both_rooms_can_be_the_first() {
+    for objects in [96, 192] {
+        // Kind 1 everywhere, and no value but 0.
+        let line = row(&[&[1, 0, 0, objects, 0][..], &[1, 0, 0].repeat(objects)].concat());
+        for number in 1..=objects {
+            let mut area = vec![0; at(objects + 1)];
+            (number..=objects).for_each(|bad| area[at(bad) + 1] = 1);
+            assert_eq!(found(&line, &area), (number as u64, 9), "{number} and all behind it");
+            (number + 1..=objects).for_each(|good| area[at(good) + 1] = 0);
+            assert_eq!(found(&line, &area), (number as u64, 9), "{number} alone");
+        }
+    }
+}
+
+#[test]
+fn the_smaller_of_two_counts() {
+    let bad = [(at(1) + 1, 2), (at(2) + 1, 6), (at(3), 1), (at(4), 0), (at(5), 3), (at(6), 0), (at(7), 1), (1_727, 1)];
+    for (first, change) in bad.iter().enumerate() {
+        for later in &bad[first + 1..] {
+            let number = (change.0 - 96) / 17 + 1;
+            assert_eq!(with_bytes(&[*later, *change]), (number as u64, 9), "{change:?} {later:?}");
+        }
+    }
+}
+
+#[test]
+fn a_head_that_breaks_no_record_gives_0_and_question_9_says_no() {
+    let heads = [(0, 1), (0, 2), (0, 255), (3, 3), (63, 255), (65, 3), (65, 64), (66, 1), (79, 2), (82, 1), (95, 1)];
+    for change in heads {
+        assert_eq!(with_bytes(&[change]), (0, 9), "{change:?}");
+    }
+    // The walk is right beside it.
+    for change in heads {
+        assert_eq!(with_bytes(&[change, (at(4), 0)]), (4, 9), "{change:?}");
+        assert_eq!(with_bytes(&[change, (1_711, 7)]), (96, 9), "{change:?}");
+    }
+}
+
+#[test]
+fn a_head_that_breaks_records_gives_the_first_of_them() {
+    // The status of partition 1, where objects 1, 2, 5 and 6 are, and of 2, where 3 and 4 are.
+    for status in [0, 2, 3, 255] {
+        assert_eq!(with_bytes(&[(1, status)]), (1, 9), "{status}");
+        assert_eq!(with_bytes(&[(2, status)]), (3, 9), "{status}");
+    }
+    // Driver 1 owns object 6, device 1 objects 1 and 2, device 2 objects 3 and 4.
+    for partition in [0, 2, 3, 64] {
+        assert_eq!(with_bytes(&[(64, partition)]), (6, 9), "{partition}");
+        assert_eq!(with_bytes(&[(80, partition)]), (1, 9), "{partition}");
+    }
+    assert_eq!(with_bytes(&[(81, 1)]), (3, 9));
+    // Together with its objects: right where the partition exists.
+    assert_eq!(with_bytes(&[(81, 1), (at(3), 1), (at(4), 1)]), (0, 10));
+    assert_eq!(with_bytes(&[(81, 0), (at(3), 0), (at(4), 0)]), (0, 10));
+    for partition in [3, 63, 64, 255] {
+        assert_eq!(with_bytes(&[(81, partition), (at(3), partition), (at(4), partition)]), (3, 9), "{partition}");
+    }
+    assert_eq!(with_bytes(&[(81, 1), (at(3), 1)]), (4, 9));
+    // Only an external object is in partition 3: the head keeps its rules.
+    assert_eq!(with_bytes(&[(3, 1), (at(5), 3)]), (0, 10));
+    assert_eq!(with_bytes(&[(3, 2), (at(5), 3)]), (5, 9));
+}
+
+#[test]
+fn files_come_first_then_the_length() {
+    for (objects, needed) in [(0, 1_728), (96, 1_728), (97, 3_360), (192, 3_360)] {
+        let line = plain_line(objects);
+        for length in 0..=4_096 {
+            let expected = if length == needed { 0 } else { REFUSED + 7 };
+            assert_eq!(first_bad(&line, &vec![0; length]), expected, "{objects} objects, {length} bytes");
+        }
+        assert_eq!(first_bad(&[&line[..], &[0]].concat(), &[]), REFUSED + 4);
+        assert_eq!(first_bad(&line[..4], &vec![1; needed]), REFUSED + 1);
+    }
+    let mut rng = Rng::new(21);
+    for number in (1..=6).cycle().take(120) {
+        let size = Size::any(&mut rng);
+        let world = world(&mut rng, size);
+        let line = broken::line(&mut rng, &world, number);
+        let length = [0, 1_728, 3_360][rng.below(3)];
+        if let Err(question) = load(&line) {
+            assert_eq!(first_bad(&line, &rng.bytes(length)), REFUSED + u64::from(question));
+        }
+    }
+}
+
+#[test]
+fn any_area_gives_a_place_within_the_room() {
+    let mut rng = Rng::new(22);
+    for _ in 0..300 {
+        let size = Size::any(&mut rng);
+        let world = world(&mut rng, size);
+        let room = if world.config.objects.len() <= 96 { 96 } else { 192 };
+        let place = first_bad(&world.line, &rng.bytes(at(room + 1)));
+        assert!(place <= room as u64);
+        let mut area = vec![0; at(room + 1)];
+        assert_eq!(fresh(&world.line, &mut area), 0);
+        assert_eq!(found(&world.line, &area), (0, 10));
+    }
+}
+
+#[test]
+fn records_that_are_put_right_one_by_one_lead_to_a_well_formed_state() {
+    let mut rng = Rng::new(23);
+    for size in [Size::Tiny, Size::Medium, Size::Full, Size::Wide].into_iter().cycle().take(60) {
+        let world = world(&mut rng, size);
+        let right = sound(&mut rng, &world.config).to_bytes();
+        let mut area = right.clone();
+        for _ in 0..rng.between(1, 40) {
+            let place = rng.between(96, area.len() - 1);
+            area[place] = rng.between(0, 255) as u8;
+        }
+        let mut last = 0;
+        loop {
+            let (place, answer) = found(&world.line, &area);
+            assert_eq!(answer, if place == 0 { 10 } else { 9 });
+            if place == 0 {
+                break;
+            }
+            assert!(place > last, "{place} behind {last}");
+            last = place;
+            let from = at(place as usize);
+            area[from..from + 17].copy_from_slice(&right[from..from + 17]);
+        }
+    }
+}
+
+/// Small and wide configurations, each with areas.
+fn damaged_lines(seed: u64, count: u64) -> impl Iterator<Item = Line> {
+    (0..count).flat_map(move |part| {
+        let mut rng = Rng::part(seed, part);
+        let size = if part % 2 == 0 { Size::Wide } else { Size::any(&mut rng) };
+        let world = world(&mut rng, size);
+        let made = lines(&mut rng, &world.config);
+        assert_eq!(made[0].line, world.line);
+        made
+    })
+}
+
+#[test]
+fn damaged_areas_have_their_first_bad_record_where_they_say() {
+    for Line { config, line, areas } in damaged_lines(24, 100) {
+        assert_eq!(load(&line).as_ref(), Ok(&config));
+        for Damaged { name, state, place, head_fits } in areas {
+            let answer = if place == 0 && head_fits { 10 } else { 9 };
+            assert_eq!(found(&line, &state.to_bytes()), (place as u64, answer), "{name}");
+            assert_eq!(well_formed(&config, &state), answer == 10, "{name}");
+            assert_eq!(state::head_fits(&config, &state), head_fits, "{name}");
+        }
+    }
+}
+
+/// What a place is: the first, the last object's, the one behind it, the room's last.
+fn places(config: &Config, place: usize) -> Vec<&'static str> {
+    let (objects, room) = (config.objects.len(), config.room());
+    let all = [("first", 1), ("object N", objects), ("N + 1", objects + 1), ("last", room)];
+    all.into_iter().filter(|(_, number)| *number == place).map(|(name, _)| name).chain(["any"]).collect()
+}
+
+/// How often each thing was broken at each place, of small configurations and of wide ones.
+fn survey() -> BTreeMap<(String, &'static str), [usize; 2]> {
+    let mut seen: BTreeMap<(String, &'static str), [usize; 2]> = BTreeMap::new();
+    for Line { config, areas, .. } in damaged_lines(25, 500) {
+        for one in areas {
+            for place in places(&config, one.place) {
+                seen.entry((one.name.clone(), place)).or_default()[usize::from(config.is_wide())] += 1;
+            }
+        }
+    }
+    seen
+}
+
+#[test]
+fn every_rule_is_broken_at_every_place_of_both_rooms() {
+    let seen = survey();
+    let often = |name: &str, place: &'static str| {
+        let counts = seen.get(&(name.to_string(), place)).copied().unwrap_or_default();
+        assert!(counts.iter().all(|count| *count >= 10), "{name}, {place}: {counts:?}");
+    };
+    let partitions = ["a partition above 63", "a partition never used", "a destroyed partition"];
+    let owned = ["another partition than the owner's", "no partition, and the owner is active"];
+    let contents = ["a value above K", "a byte behind a value", "another hardcoded value"];
+    for name in [&partitions[..], &owned, &contents, &["a byte behind a hardcoded value"]].concat() {
+        ["first", "object N", "last", "any"].into_iter().for_each(|place| often(name, place));
+    }
+    ["first", "object N", "N + 1", "any"].into_iter().for_each(|place| often("two records", place));
+    for name in ["an absent object's partition", "an absent object's contents", "the head and a record"] {
+        ["N + 1", "last", "any"].into_iter().for_each(|place| often(name, place));
+    }
+    let alone = ["status 0", "a status above 2", "a driver without objects", "an absent driver", "an absent device"];
+    let status = ["destroyed", "never used", "with no status"].map(|name| format!("objects in a partition {name}"));
+    let ways = ["inactive", "elsewhere", "nowhere", "nowhere with its objects"];
+    let owners = ways.into_iter().flat_map(|way| ["driver", "device"].map(|owner| format!("a {owner} {way}")));
+    ["nothing"].into_iter().chain(alone).for_each(|name| often(name, "any"));
+    status.into_iter().chain(owners).for_each(|name| often(&name, "any"));
+}
+
+#[test]
+fn damaged_areas_tell_every_faulty_walk() {
+    let mut told = WALKS.map(|(name, _)| (name, [0; 2]));
+    for Line { config, areas, .. } in damaged_lines(26, 50) {
+        for one in &areas {
+            for ((_, walk), (_, counts)) in WALKS.iter().zip(&mut told) {
+                counts[usize::from(config.is_wide())] += usize::from(walk(&config, &one.state) != one.place);
+            }
+        }
+    }
+    println!("{told:?}");
+    for (name, counts) in told {
+        let small = if name == "asks the first 96 records" { 0 } else { 3 };
+        assert!(counts[0] >= small && counts[1] >= 3, "{name}: {counts:?}");
+    }
+}
+
+#[test]
+fn faulty_walks_find_nothing_new_in_sound_states() {
+    // Where nothing is broken, no walk names a record: each differs in what it is about alone.
+    let mut rng = Rng::new(27);
+    for size in [Size::Small, Size::Full, Size::Wide].into_iter().cycle().take(30) {
+        let config = world(&mut rng, size).config;
+        let state: State = sound(&mut rng, &config);
+        WALKS.iter().for_each(|(name, walk)| assert_eq!(walk(&config, &state), 0, "{name}"));
+    }
+}
