@@ -4,11 +4,12 @@
     tests/vectors.py            write crates/vectors/stdin, stdout and cases.txt
     tests/vectors.py --check    fail if what is stored differs
 
-The cases are made here (those of the writer of files in vectors_write.py, those of wide lines in vectors_wide.py) and
-judged elsewhere: answers and checksums are the reference's, by its program `vectors`. A named case states its answer,
-and if the reference gives another, nothing is written and the check fails. A case is a byte for what is called, its
-length in two bytes, lower byte first, and its bytes; its row is its place from 1, the answer, and a checksum of what
-the call left (0 where it leaves nothing). What is called:
+The cases are made here (those of the writer of files in vectors_write.py, those of wide lines in vectors_wide.py, those
+of the first bad record in vectors_first.py) and judged elsewhere: answers and checksums are the reference's, by its
+program `vectors`. A named case states its answer, and if the reference gives another, nothing is written and the check
+fails. A case is a byte for what is called, its length in two bytes, lower byte first, and its bytes; its row is its
+place from 1, the answer, and a checksum of what the call left (0 where it leaves nothing) or, in 12, a second answer.
+What is called:
 
     1         the load check, on a file
     2, 5, 6   a fresh state of a file, in an area of the length that its line needs, a byte shorter or longer (as for
@@ -22,6 +23,8 @@ the call left (0 where it leaves nothing). What is called:
     9         an operation that creates partition 1: a file after its length in two bytes, an area's length in two
               bytes, and the bytes of the area that are not 0, as in 3
     10        the length of a file's state area
+    12        the first bad record of an area, in the form of 9; the second answer, which is stated too, is that to an
+              operation on the area whose record is empty
 """
 import os
 import pathlib
@@ -29,6 +32,7 @@ import random
 import subprocess
 import sys
 
+import vectors_first
 import vectors_wide
 import vectors_write
 from layout import (AREA, CONTENT, DEVICES_FROM, DRIVERS_FROM, MOST_DEVICES, MOST_DRIVERS, MOST_ENTRIES, MOST_ITEMS,
@@ -37,7 +41,7 @@ from layout import (AREA, CONTENT, DEVICES_FROM, DRIVERS_FROM, MOST_DEVICES, MOS
 TOP = pathlib.Path(__file__).resolve().parent.parent
 HOME = TOP / "crates" / "vectors"
 LOAD, FRESH, FORMED, OPERATION, FRESH_SHORT, FRESH_LONG, WRITE = 1, 2, 3, 4, 5, 6, 7
-FRESH_IN, OPERATE_IN, STATE_BYTES, WRITE_WIDE = 8, 9, 10, 11
+FRESH_IN, OPERATE_IN, STATE_BYTES, WRITE_WIDE, FIRST_BAD = 8, 9, 10, 11, 12
 # What the program `vectors` takes in.
 MOST_INPUT = 131072
 
@@ -254,14 +258,19 @@ SHORT = {1: [1, 1, 1, 2, 0, 3], 2: [2, 1, 1, 2, 0, 3], 3: [3, 1, 1, 5, 0], 4: [4
          7: [7, 1, 1], 8: [8, 2, 2], 9: [9, 1, 1, 5], 10: [10, 1], 11: [11, 2], 12: [12, 1, 2, 5, 6]}
 
 
-def case(label, call, data, stated=None):
-    """A case and, if it is a named one, the answer that it states."""
-    return label, bytes([call]) + two(len(data)) + data, stated
+def case(label, call, data, stated=None, left=None):
+    """A case and, if it is a named one, the answer that it states; some state what else stands in their row."""
+    return label, bytes([call]) + two(len(data)) + data, stated, left
 
 
 def patches(area):
     """The bytes of an area that are not 0, each after its place."""
     return b"".join(two(place) + bytes([byte]) for place, byte in sorted(area.items()) if byte)
+
+
+def on_area(file, length, area):
+    """The bytes of a case that has a file, and an area of a length of its own."""
+    return two(len(file)) + file + two(length) + patches(area)
 
 
 def small_cases():
@@ -291,10 +300,10 @@ def wide_cases():
     for label, file, length, stated in vectors_wide.fresh_lengths():
         yield case(f"fresh: {label}", FRESH_IN, two(length) + file, stated)
     for label, file, length, stated in vectors_wide.lengths():
-        yield case(f"operate: {label}", OPERATE_IN, two(len(file)) + file + two(length), stated)
+        yield case(f"operate: {label}", OPERATE_IN, on_area(file, length, {}), stated)
     for named in (vectors_wide.absent(), vectors_wide.present()):
         for label, file, length, area, stated in named:
-            yield case(label, OPERATE_IN, two(len(file)) + file + two(length) + patches(area), stated)
+            yield case(label, OPERATE_IN, on_area(file, length, area), stated)
     for label, file, stated in vectors_wide.needed():
         yield case(label, STATE_BYTES, file, stated)
     for label, record, stated in vectors_wide.records():
@@ -304,9 +313,12 @@ def wide_cases():
 
 
 def cases():
-    """Those of small lines first, whose bytes stay as they were."""
+    """In the order in which they came to be: the bytes of those that were there stay as they were."""
     yield from small_cases()
     yield from wide_cases()
+    for label, file, length, area, stated, answer in vectors_first.cases():
+        told = f"; answer {answer}" if answer else ""
+        yield case(f"first bad: {label}{told}", FIRST_BAD, on_area(file, length, area), stated, answer)
 
 
 def reference_program(name):
@@ -326,7 +338,7 @@ def judged(stdin):
 def files():
     """The three files, by name; ends the program if the reference does not answer what a named case states."""
     made = list(cases())
-    stdin = b"".join(data for _, data, _ in made)
+    stdin = b"".join(data for _, data, _, _ in made)
     if len(stdin) > MOST_INPUT:
         sys.exit(f"the cases have {len(stdin)} bytes, and the program takes {MOST_INPUT}")
     stdout = judged(stdin)
@@ -334,10 +346,11 @@ def files():
     if [place for place, _, _ in rows] != list(range(1, len(made) + 1)):
         sys.exit(f"the reference gives {len(rows)} rows for {len(made)} cases, or not in their order")
     wrong, listed = [], []
-    for (label, _, stated), (place, answer, _) in zip(made, rows):
-        listed.append(f"{place} {answer} {label}\n")
-        if stated is not None and stated != answer:
-            wrong.append(f"{label}: stated {stated}, the reference answers {answer}")
+    for (label, _, *stated), (place, *found) in zip(made, rows):
+        listed.append(f"{place} {found[0]} {label}\n")
+        for one, other in zip(stated, found):
+            if one not in (None, other):
+                wrong.append(f"{label}: stated {one}, the reference answers {other}")
     if wrong:
         sys.exit("\n".join(wrong))
     return {"stdin": stdin, "stdout": stdout, "cases.txt": "".join(listed).encode()}

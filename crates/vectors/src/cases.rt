@@ -17,7 +17,8 @@ use state::room::room_for;
 // What a case calls: the load check; making a fresh state in an area of the length that the line needs, of a byte less
 // and of a byte more; question 9; question 10; the writer on a configuration in memory, with columns for few objects;
 // making a fresh state in an area of any length; creating a partition on an area of any length and content; the length
-// that the line needs; the writer with columns for every object.
+// that the line needs; the writer with columns for every object; the first bad record of an area of any length and
+// content.
 const LOAD: u8 = 1;
 
 const FRESH: u8 = 2;
@@ -39,6 +40,8 @@ const CREATE_IN: u8 = 9;
 const STATE_BYTES: u8 = 10;
 
 const WRITE_WIDE: u8 = 11;
+
+const FIRST_BAD: u8 = 12;
 
 // How long the area of a case is at most.
 pub(crate) const MOST_AREA: usize = 4096;
@@ -243,11 +246,10 @@ fn judge_formed(bytes: &[u8]) -> Row {
     formed_row(&bytes[1..end], &area)
 }
 
-// The record that creates partition 1, on an area with patches.
-fn create_row(file: &[u8], area: &mut [u8], patches: &[u8]) -> Row {
+// The record that creates partition 1.
+fn create_row(file: &[u8], area: &mut [u8]) -> Row {
     let mut answer = [0u8; ANSWER_BYTES];
     let record = [CREATE_CODE, 1];
-    patch(area, patches);
     let number = gate::gate_operate(file, area, &record, &mut answer);
     Row {
         answer: wider(number),
@@ -255,17 +257,38 @@ fn create_row(file: &[u8], area: &mut [u8], patches: &[u8]) -> Row {
     }
 }
 
+// The first bad record, and the answer to an operation whose record is empty: no area is changed.
+fn first_bad_row(file: &[u8], area: &mut [u8]) -> Row {
+    let mut answer = [0u8; ANSWER_BYTES];
+    let place = gate::gate_first_bad(file, &area[..]);
+    let number = gate::gate_operate(file, area, b"", &mut answer);
+    Row {
+        answer: place,
+        left: wider(number),
+    }
+}
+
+// One of the two, on an area with patches.
+fn row_on(call: u8, file: &[u8], area: &mut [u8], patches: &[u8]) -> Row {
+    patch(area, patches);
+    if call == FIRST_BAD {
+        first_bad_row(file, area)
+    } else {
+        create_row(file, area)
+    }
+}
+
 // The same on an area of n bytes, all 0 but the patches.
-fn create_in(file: &[u8], n: usize, patches: &[u8]) -> Row {
+fn row_in(call: u8, file: &[u8], n: usize, patches: &[u8]) -> Row {
     let mut area = [0u8; MOST_AREA];
     if MOST_AREA < n {
         return unknown();
     }
-    create_row(file, &mut area[0..n], patches)
+    row_on(call, file, &mut area[0..n], patches)
 }
 
 // The file's length in two bytes, the file, the area's length in two bytes, and the bytes of the area that are not 0.
-fn judge_create_in(bytes: &[u8]) -> Row {
+fn judge_in(call: u8, bytes: &[u8]) -> Row {
     if bytes.len() < 2 {
         return unknown();
     }
@@ -274,7 +297,8 @@ fn judge_create_in(bytes: &[u8]) -> Row {
     if bytes.len() < from {
         return unknown();
     }
-    create_in(
+    row_in(
+        call,
         &bytes[2..end],
         two(bytes[end], bytes[end + 1]),
         &bytes[from..],
@@ -294,12 +318,13 @@ pub(crate) fn judge(call: u8, bytes: &[u8]) -> Row {
         OPERATION => judge_operation(bytes),
         WRITE => judge_write(bytes),
         FRESH_IN => judge_fresh_in(bytes),
-        CREATE_IN => judge_create_in(bytes),
+        CREATE_IN => judge_in(call, bytes),
         STATE_BYTES => Row {
             answer: gate::gate_state_bytes(bytes),
             left: 0,
         },
         WRITE_WIDE => judge_wide_write(bytes),
+        FIRST_BAD => judge_in(call, bytes),
         _ => unknown(),
     }
 }
