@@ -3,8 +3,9 @@
 // well formed, whose descriptors lead further. Lines of at most 96 objects and wider ones are two kinds, and each kind
 // gets state areas of both lengths. For each kind every number must be answered, and every code accepted and refused by
 // each of the questions that are put to it alone (18 to 20), a line rewritten and its state area's length told with
-// each kind of answer, and an area of the other kind's length refused by 7; and of eight calls at least one has a wide
-// line. Otherwise nothing was compared.
+// each kind of answer, and an area of the other kind's length refused by 7; the first bad record of an area must be an
+// object's, an absent one's, and none, where question 9 is answered with yes and where it is not; and of eight calls at
+// least one has a wide line. Otherwise nothing was compared.
 //   agree CALLS SEED   prints how many calls were compared; to be called in the repository's root
 #include <inttypes.h>
 #include <stdio.h>
@@ -18,8 +19,14 @@
 #include "sorter_gate.h"
 
 enum { NUMBERS = 21, CODES = 13, KINDS = 3, SESSION = 64, ROOM = 4096, WIDE_IN = 8 };
-enum call { LOAD_CHECK, FRESH, OPERATE, REWRITE, STATE_LENGTH };
-static const char *const CALLS[] = {"load check", "fresh state", "operation", "rewriting", "state length"};
+// The bytes of a state area before its records.
+enum { HEAD_BYTES = MOST_PARTITION + 1 + 2 * MOST_OWNERS };
+enum call { LOAD_CHECK, FRESH, OPERATE, REWRITE, STATE_LENGTH, FIRST_BAD };
+static const char *const CALLS[] = {"load check", "fresh state",  "operation",
+                                    "rewriting",  "state length", "first bad record"};
+// What the first bad record of an area is: none of one that is well formed, or of one that is not; an object's; no
+// object's; or it is not told.
+enum found { WELL_FORMED, HEAD_ALONE, OBJECT, ABSENT, UNTOLD, FOUND };
 
 // The areas that a gate may write to, with bytes behind them that it may not.
 struct areas {
@@ -28,7 +35,7 @@ struct areas {
 
 // What was met on lines of one kind.
 struct met {
-    unsigned long calls, answered[CODES][NUMBERS], rewritten[KINDS], told[KINDS], other_length;
+    unsigned long calls, answered[CODES][NUMBERS], rewritten[KINDS], told[KINDS], other_length, found[FOUND];
 };
 
 static struct areas by_library, by_plain;
@@ -78,6 +85,8 @@ static uint64_t library_call(enum call call) {
                             answer_length);
     case REWRITE:
         return gate_rewrite(line, line_length, by_library.out, out_length);
+    case FIRST_BAD:
+        return gate_first_bad(line, line_length, by_library.state, state_length);
     default:
         return gate_state_bytes(line, line_length);
     }
@@ -94,6 +103,8 @@ static uint64_t plain_call(enum call call) {
                              answer_length);
     case REWRITE:
         return plain_rewrite(line, line_length, by_plain.out, out_length);
+    case FIRST_BAD:
+        return plain_first_bad(line, line_length, by_plain.state, state_length);
     default:
         return plain_state_bytes(line, line_length);
     }
@@ -117,11 +128,30 @@ static void tell(enum call call, const struct areas *before, const char *what) {
     exit(1);
 }
 
-// Counts an answer, by its kind where it has one, with the lines of its kind; whether the call is accepted.
+static enum found found_by(uint64_t answer) {
+    if (answer > MOST_OBJECTS) {
+        return UNTOLD;
+    }
+    if (answer) {
+        return answer > objects_of(line) ? ABSENT : OBJECT;
+    }
+    // An empty record is refused, and changes nothing.
+    return plain_operate(line, line_length, by_plain.state, state_length, record, 0, by_plain.answer, ROOM) ==
+                   SORTER_GATE_STATE_FORM
+               ? HEAD_ALONE
+               : WELL_FORMED;
+}
+
+// Counts an answer, by its kind where it has one, with the lines of its kind; whether the call is accepted. Asking for
+// the first bad record is not: a byte that was spoilt for it is put back.
 static int count(enum call call, uint64_t answer) {
     struct met *met = is_wide() ? &wide : &small;
     size_t other = is_wide() ? SORTER_GATE_STATE_BYTES : SORTER_GATE_STATE_BYTES_WIDE;
     met->calls++;
+    if (call == FIRST_BAD) {
+        met->found[found_by(answer)]++;
+        return 0;
+    }
     if (call == REWRITE || call == STATE_LENGTH) {
         (call == REWRITE ? met->rewritten : met->told)[SORTER_GATE_KIND(answer) % KINDS]++;
     } else {
@@ -182,6 +212,8 @@ static enum call some_call(size_t step, int from_fresh) {
         return REWRITE;
     case 3:
         return STATE_LENGTH;
+    case 4:
+        return FIRST_BAD;
     default:
         return OPERATE;
     }
@@ -203,6 +235,12 @@ static void choose_record(size_t step, int from_fresh) {
     record_length = record_length && below(32) == 0 ? stretch(record, record_length) : record_length;
 }
 
+// A byte of the state that is to be spoilt: before the records as often as anywhere, if their first bad one is asked
+// for.
+static uint8_t *some_byte(enum call call) {
+    return &by_library.state[below(call == FIRST_BAD && below(2) ? HEAD_BYTES : state_bytes())];
+}
+
 // One call; a byte of the state that was spoilt in vain is put back.
 static void go_on(size_t step, int from_fresh) {
     enum call call = some_call(step, from_fresh);
@@ -214,7 +252,7 @@ static void go_on(size_t step, int from_fresh) {
     state_length = some_state_length();
     answer_length = some_length(SORTER_GATE_ANSWER_BYTES + below(40), below(100));
     out_length = some_length(line_length ? line_length : 1, below(6));
-    uint8_t *byte = &by_library.state[below(state_bytes())], mask = (uint8_t)(below(50) ? 0 : 1 << below(8));
+    uint8_t *byte = some_byte(call), mask = (uint8_t)(below(call == FIRST_BAD ? 2 : 50) ? 0 : 1 << below(8));
     *byte ^= mask;
     if (!compare(call)) {
         *byte ^= mask;
@@ -254,6 +292,9 @@ static void demand_all(const struct met *met, const char *lines) {
     }
     for (unsigned kind = SORTER_GATE_DONE; kind <= SORTER_GATE_REFUSED; kind++) {
         demand(met->told[kind], lines, "a state length of the kind", kind);
+    }
+    for (unsigned found = 0; found < FOUND; found++) {
+        demand(met->found[found], lines, "a first bad record of the sort", found);
     }
     demand(met->other_length, lines, "the other kind's area, refused by", SORTER_GATE_STATE_LENGTH);
     demand_codes(met, lines);

@@ -1,7 +1,8 @@
 // Makes one call of the library or of the plain gate on the same areas again and again, so that callgrind can count
 // one. A line is rewritten into as many bytes as AREA has.
-//   beside load|fresh|operate|rewrite LINE AREA RECORD TIMES gate|plain   prints the answer
-//   beside load|fresh|operate|rewrite LINE AREA RECORD 1 both             and ends with 1 if they leave different areas
+//   beside CALL LINE AREA RECORD TIMES gate|plain   prints the answer; CALL is load, fresh, operate, rewrite, or walk
+//                                                   for the first bad record
+//   beside CALL LINE AREA RECORD 1 both             and ends with 1 if they leave different areas
 #include <inttypes.h>
 #include <stdbool.h>
 #include <stdio.h>
@@ -28,6 +29,9 @@ static uint64_t gate_call(char call, struct areas *to) {
     if (call == 'r') {
         return gate_rewrite(line, line_len, to->state, area_len);
     }
+    if (call == 'w') {
+        return gate_first_bad(line, line_len, area, area_len);
+    }
     memcpy(to->state, area, area_len);
     return call == 'f'
                ? gate_fresh(line, line_len, to->state, area_len)
@@ -40,6 +44,9 @@ static uint64_t plain_call(char call, struct areas *to) {
     }
     if (call == 'r') {
         return plain_rewrite(line, line_len, to->state, area_len);
+    }
+    if (call == 'w') {
+        return plain_first_bad(line, line_len, area, area_len);
     }
     memcpy(to->state, area, area_len);
     return call == 'f'
@@ -61,8 +68,8 @@ static uint64_t same_call(char call) {
 
 int main(int argc, char **argv) {
     static struct areas areas;
-    if (argc != 7 || !strchr("lfor", argv[1][0])) {
-        fprintf(stderr, "beside load|fresh|operate|rewrite LINE AREA RECORD TIMES gate|plain|both\n");
+    if (argc != 7 || !strchr("lforw", argv[1][0])) {
+        fprintf(stderr, "beside load|fresh|operate|rewrite|walk LINE AREA RECORD TIMES gate|plain|both\n");
         return 2;
     }
     line_len = slurp(argv[2], line, sizeof line);

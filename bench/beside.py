@@ -79,6 +79,7 @@ def cases(size):
     yield "object leaves, dense", "operate", dense, vectors.row([12, 1, 1, last]), "0"
     yield "card writes eight items, dense", "operate", dense, card_writes(dense), "0"
     yield "rewrite the line", "rewrite", dense, b"", str(len(dense.file()))
+    yield "first bad record, none, dense", "walk", dense, b"", "0"
 
 
 def table(folder):

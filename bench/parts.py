@@ -16,22 +16,32 @@ PARTS = [("load the file", r"(config|sound|varint)::"),
          ("copy and clear (the host's C library)", r"__mem")]
 
 
-def steps_table(folder, head, size):
-    """The same dense state; each call is refused later than the one before."""
+# The step that tests/ratios.py holds to a bound.
+QUESTION_9 = "9: the whole area"
+
+
+def steps(folder, size, times=TIMES):
+    """The same dense state; each call is refused later than the one before: label, answer, the call's instructions, and
+    how many more they are."""
     program = build(f"{folder}/calls", "gate", "-Iinclude", "bench/calls.c")
     line = lines.leaving(**size)
     own, value = line.own(1)[0], len(line.values)
     write = vectors.row([1, 1, 1, own, 0, value])
-    cases = [("1 to 8: the file", "short", write, "8"), ("9: the whole area", "operate", b"", "10"),
+    cases = [("1 to 8: the file", "short", write, "8"), (QUESTION_9, "operate", b"", "10"),
              ("10 to 16: the record", "operate", vectors.row([7, 1, 1]), "16"),
              ("17 to 19, and the effect", "operate", write, "0")]
-    print(f"{head:<36}{'answer':>8}{'whole':>10}{'more':>10}")
     before = 0
     for label, call, record, stated in cases:
-        whole, answer = one_call(folder, program, *write_case(folder, line, record), call)
+        whole, answer = one_call(folder, program, *write_case(folder, line, record), call, times=times)
         expect(label, stated, answer)
-        print(f"{label:<36}{answer:>8}{whole:>10}{whole - before:>10}")
+        yield label, answer, whole, whole - before
         before = whole
+
+
+def steps_table(folder, head, size):
+    print(f"{head:<36}{'answer':>8}{'whole':>10}{'more':>10}")
+    for label, answer, whole, more in steps(folder, size):
+        print(f"{label:<36}{answer:>8}{whole:>10}{more:>10}")
 
 
 def by_function(folder, program, paths, times):

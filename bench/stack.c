@@ -2,7 +2,8 @@
 // of the caller down to the lowest byte that changed is what the call took. Two paints, so that a byte stored with the
 // paint's own value is not missed.
 //   stack LINE AREA RECORD   prints the bytes and the answer of a load check, of a fresh state, of the operation, of a
-//                            rewriting of the line and of the length of its state area
+//                            rewriting of the line, of the length of its state area, and of the first bad record of an
+//                            area whose last record is broken
 #define _POSIX_C_SOURCE 200809L
 #include <inttypes.h>
 #include <pthread.h>
@@ -13,9 +14,9 @@
 #include "slurp.h"
 #include "sorter_gate.h"
 
-enum { STACK_BYTES = 1 << 20 };
+enum { STACK_BYTES = 1 << 20, RECORD_BYTES = 17 };
 
-enum call { LOAD, FRESH, OPERATE, REWRITE, STATE_LENGTH };
+enum call { LOAD, FRESH, OPERATE, REWRITE, STATE_LENGTH, FIRST_BAD };
 
 static uint8_t line[4096], area[4096], state[4096], record[4096], answer[SORTER_GATE_ANSWER_BYTES], out[4096];
 static size_t line_len, area_len, record_len;
@@ -36,8 +37,10 @@ static void *work(void *unused) {
         number = gate_operate(line, line_len, state, area_len, record, record_len, answer, sizeof answer);
     } else if (wanted == REWRITE) {
         number = gate_rewrite(line, line_len, out, sizeof out);
-    } else {
+    } else if (wanted == STATE_LENGTH) {
         number = gate_state_bytes(line, line_len);
+    } else {
+        number = gate_first_bad(line, line_len, state, area_len);
     }
     return NULL;
 }
@@ -52,6 +55,10 @@ static size_t painted_depth(enum call call, int paint) {
     pthread_attr_t attributes;
     pthread_t thread;
     memcpy(state, area, area_len);
+    if (call == FIRST_BAD) {
+        // No partition has this number.
+        state[area_len - RECORD_BYTES] = 255;
+    }
     memset(stack, paint, sizeof stack);
     wanted = call;
     if (pthread_attr_init(&attributes) || pthread_attr_setstack(&attributes, stack, sizeof stack) ||
@@ -85,7 +92,7 @@ int main(int argc, char **argv) {
     line_len = slurp(argv[1], line, sizeof line);
     area_len = slurp(argv[2], area, sizeof area);
     record_len = slurp(argv[3], record, sizeof record);
-    for (enum call call = LOAD; call <= STATE_LENGTH; call++) {
+    for (enum call call = LOAD; call <= FIRST_BAD; call++) {
         measure(call);
     }
     return 0;

@@ -24,10 +24,12 @@ LEAST = 512
 
 # All names are bound before the first call: the loader would do that on the stack that is measured.
 SOURCES = ("gate", "-pthread", "-Wl,-z,now", "-Iinclude", "bench/stack.c")
-WRAP = "-Wl," + ",".join(f"--wrap=gate_{name}" for name in ("load_check", "fresh", "operate", "rewrite", "state_bytes"))
+WRAP = "-Wl," + ",".join(f"--wrap=gate_{name}" for name in ("load_check", "fresh", "operate", "rewrite", "state_bytes",
+                                                            "first_bad"))
 
 # Each call with the most that it may take; the operation's answer is the record's.
-CALLS = {"load check": MOST, "fresh state": MOST, "operation": MOST, "rewriting": MOST_REWRITE, "state length": MOST}
+CALLS = {"load check": MOST, "fresh state": MOST, "operation": MOST, "rewriting": MOST_REWRITE, "state length": MOST,
+         "first bad record": MOST}
 OPERATION = list(CALLS).index("operation")
 CODES = range(1, 13)
 SIZES = (lines.FULL, lines.WIDE)
@@ -38,6 +40,7 @@ FAULTS = {
     "constant 10": "load check: answer 10, not 0",
     "always 0": "rewriting: answer 0, not",
     "told 0": "state length: answer 0, not",
+    "named 0": "first bad record: answer 0, not",
     "elsewhere": "load check: less than",
     "deep": "operation: more than",
     "deep-rewrite": "rewriting: more than",
@@ -102,7 +105,8 @@ def rows(program, folder, fault):
         for record, answers in records(line):
             told = run(program, *write_case(folder, line, record), env=environment).stdout.split()
             depths, found = [[int(n) for n in told[i::2]] for i in (0, 1)]
-            stated = (0, 0, answers[place], len(line.file()), len(line.area()))
+            # Both sizes have as many objects as their areas have records, and bench/stack.c breaks the last one.
+            stated = (0, 0, answers[place], len(line.file()), len(line.area()), len(line.objects))
             yield record[:1], list(zip(CALLS, depths, found, stated, strict=True))
 
 

@@ -18,6 +18,7 @@ sys.path.insert(0, str(TOP / "bench"))
 import beside  # noqa: E402
 import full  # noqa: E402
 import lines  # noqa: E402
+import parts  # noqa: E402
 import search  # noqa: E402
 from measure import expect, one_call, write_files  # noqa: E402
 
@@ -33,16 +34,19 @@ REWRITE, WIDE_WRITE = "full: rewrite the line", "wide: driver writes data, dense
 ROWS = ("full: load check", "full: driver writes data, dense", REWRITE, "quarter: card writes eight items, dense",
         "wide: load check", WIDE_WRITE)
 SLOWER = 1.1
-# Rows of the tables `load` and `search`, of which no ratio is kept.
+# Rows of the tables `load`, `search` and `parts`, of which no ratio is kept.
 WIDE_LOAD, WIDE_SEARCH = "longest file: load check", "wide: search, dense"
-# The instructions that the library may take, whatever the plain gate takes: for rewriting a line of full size, and for
-# a load, a search and a whole write on a line of 192 objects.
+QUESTION_9, WIDE_QUESTION_9 = "full: question 9, dense", "wide: question 9, dense"
+# The instructions that the library may take, whatever the plain gate takes: for rewriting a line of full size, for
+# question 9 on one and on a line of 192 objects, and for a load, a search and a whole write on a line of 192 objects.
 MOST_REWRITE = 65000
+MOST_QUESTION_9 = 4500
+MOST_WIDE_QUESTION_9 = 2 * MOST_QUESTION_9
 MOST_WIDE_LOAD = 50000
 MOST_WIDE_SEARCH = 110000
 MOST_WIDE_WRITE = 175000
-BOUNDS = {REWRITE: MOST_REWRITE, WIDE_LOAD: MOST_WIDE_LOAD, WIDE_SEARCH: MOST_WIDE_SEARCH,
-          WIDE_WRITE: MOST_WIDE_WRITE}
+BOUNDS = {REWRITE: MOST_REWRITE, QUESTION_9: MOST_QUESTION_9, WIDE_QUESTION_9: MOST_WIDE_QUESTION_9,
+          WIDE_LOAD: MOST_WIDE_LOAD, WIDE_SEARCH: MOST_WIDE_SEARCH, WIDE_WRITE: MOST_WIDE_WRITE}
 # Every call of a row is the same, so that few are enough.
 TIMES = 10
 
@@ -59,14 +63,20 @@ def measured():
 
 
 def bounded():
-    """The library's instructions of the rows that have a bound alone: a load of the longest file, in which all entries
-    name objects by two bytes, and a dense search."""
+    """The library's instructions of the rows that have a bound alone: question 9 on dense lines, a load of the longest
+    file, in which all entries name objects by two bytes, and a dense search."""
     with tempfile.TemporaryDirectory() as folder:
         made = search.program(folder)
         count, answer = one_call(folder, made, *write_files(folder, full.longest(), b"", b""), "load", times=TIMES)
         expect(WIDE_LOAD, "0", answer)
         label, line, stated = next(case for case in lines.searches() if case[0] == lines.DENSE_WIDE)
-        return {WIDE_LOAD: count, WIDE_SEARCH: search.counted(folder, made, label, line, stated, times=TIMES)[1]}
+        return {WIDE_LOAD: count, WIDE_SEARCH: search.counted(folder, made, label, line, stated, times=TIMES)[1],
+                QUESTION_9: question_9(folder, lines.FULL), WIDE_QUESTION_9: question_9(folder, lines.WIDE)}
+
+
+def question_9(folder, size):
+    """What a call that gets to question 10 takes more than one that question 8 refuses."""
+    return next(more for label, _, _, more in parts.steps(folder, size, TIMES) if label == parts.QUESTION_9)
 
 
 def kept():

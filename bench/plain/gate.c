@@ -13,6 +13,15 @@ uint64_t plain_state_bytes(const uint8_t *line, size_t line_len) {
     return number ? REFUSED | number : area_bytes(&loaded);
 }
 
+uint64_t plain_first_bad(const uint8_t *line, size_t line_len, const uint8_t *state, size_t state_len) {
+    struct line loaded;
+    uint32_t number = load(&loaded, line, line_len);
+    if (!number && state_len != area_bytes(&loaded)) {
+        number = 7;
+    }
+    return number ? REFUSED | number : first_bad(&loaded, state);
+}
+
 uint32_t plain_fresh(const uint8_t *line, size_t line_len, uint8_t *state, size_t state_len) {
     struct line loaded;
     uint32_t number = load(&loaded, line, line_len);

@@ -102,6 +102,9 @@ uint32_t load(struct line *line, const uint8_t *bytes, size_t length);
 // Question 9.
 bool well_formed(const struct line *line, const uint8_t *state);
 
+// The first record of the state that breaks a rule of question 9, or 0; whatever stands before the records.
+uint32_t first_bad(const struct line *line, const uint8_t *state);
+
 // Question 10.
 bool take_apart(struct operation *operation, const uint8_t *record, size_t length);
 
