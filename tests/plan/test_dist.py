@@ -76,7 +76,7 @@ class Archive(unittest.TestCase):
                  and "__pycache__" not in path.parts}
         self.assertEqual(tools - names, {"tools/README-dist"})
         text = (self.root / "docs/PLANNER.md").read_text(encoding="utf-8")
-        for link in re.findall(r"\]\(([^)#:]+)\)", text):
+        for link in re.findall(r"\]\(([^)#:]+)[)#]", text):
             self.assertTrue((self.root / "docs" / link).exists(), link)
         self.assertEqual({name.split("/")[0] for name in names if name},
                          {"LICENSE", "README", "docs", "examples", "judge", "target", "tools"})

@@ -7,8 +7,8 @@ from common import PROGRAM, ROOT, InFolder, plan
 from lines import random_line, random_visit, wide_line
 from planner import pack
 from planner import wording as w
-from planner.area import (CARDS_AT, DRIVERS_AT, MARK, OBJECTS_AT, RECORD, SMALL_ROOM, area_bytes, digest, length_for,
-                          read_area)
+from planner.area import (CARDS_AT, DIGEST_BYTES, DRIVERS_AT, MARK, OBJECTS_AT, RECORD, SMALL_ROOM, area_bytes, digest,
+                          length_for, read_area)
 from planner.config import Config, Device, Entry, Object, Value
 from planner.judged import judge_folder, judge_moves
 from planner.start import bring_up
@@ -22,15 +22,20 @@ NEEDED = "has {}; the state area of this line has 1,728, and 1,752 as the exampl
 FAULTS = (
     (1, 3, "byte 1: 3 is no standing of a partition"),
     (0, 1, "byte 0: 1 is no standing of a partition"),
-    (DRIVERS_AT, 7, "byte 64: driver 1 is in partition 7, which does not exist in the area"),
-    (CARDS_AT + 3, 1, "byte 83: the tables have no card 4, and the area has it in 1"),
-    (OBJECTS_AT, 0, "byte 96: Diverter wiring (hard-wired descriptor of card Diverter) is in 0, and its owner is not"),
-    (OBJECTS_AT + 1, 2, "byte 97: Diverter wiring (hard-wired descriptor of card Diverter) holds 'Scanner start-up', "
-                        "and by cards.csv 'Diverter start-up'"),
-    (OBJECTS_AT + RECORD + 1, 11, "byte 114: what Diverter ring (transfer descriptor of card Diverter) holds is no "
-                                  "value of the tables"),
-    (OBJECTS_AT + RECORD + 2, 1, "byte 114: what Diverter ring"),
-    (AREA_BYTES - 1, 1, "byte 1711: the tables have no object 96, and the area has something there"),
+    (DRIVERS_AT, 7, "byte 64: driver Sorting control is in partition 7, which does not exist in the area"),
+    (DRIVERS_AT, 7, "byte 266, object 11: Job queue (transfer descriptor of driver Sorting control) is in Live loop, "
+                    "and driver Sorting control is in partition 7"),
+    (CARDS_AT + 3, 1, "byte 83: the tables have no card 4, and the area has it in Live loop"),
+    (OBJECTS_AT, 0, "byte 96, object 1: Diverter wiring (hard-wired descriptor of card Diverter) is in no partition, "
+                    "and card Diverter is in Live loop"),
+    (OBJECTS_AT + 1, 2, "byte 97, object 1: Diverter wiring (hard-wired descriptor of card Diverter) holds "
+                        "'Scanner start-up', and by cards.csv 'Diverter start-up'"),
+    (OBJECTS_AT + RECORD + 1, 11, "byte 114, object 2: what Diverter ring (transfer descriptor of card Diverter) holds "
+                                  "is no value of the tables"),
+    (OBJECTS_AT + RECORD + 2, 1, "byte 114, object 2: what Diverter ring"),
+    (OBJECTS_AT + 13 * RECORD, 2, "byte 317, object 14: Barcode table (external data) is in partition Test bench, "
+                                  "which does not exist in the area"),
+    (AREA_BYTES - 1, 1, "byte 1711, object 96: the tables have no such object, and the area has something there"),
 )
 
 
@@ -128,6 +133,14 @@ class Today(InFolder):
             status, text, complaints = self.start(data)
             self.assertEqual((status, text), (2, ""))
             self.assertIn(f"plan: stored: {said}", complaints)
+
+    def test_what_shows_of_the_damage(self):
+        """Beside a checksum that does not fit the objects are named too, if the file is of this line."""
+        for line, more in (((TODAY / "line.bin").read_bytes(), True), (b"another", False)):
+            data = bytearray(MARK + digest(line) + self.area + digest(MARK + digest(line) + self.area))
+            data[-DIGEST_BYTES - 1] = 1
+            self.assertEqual(self.start(data), (2, "", "plan: stored: is damaged: its checksum does not fit\n"
+                                                + f"plan: stored: {FAULTS[-1][2]}\n" * more))
 
     def test_what_cannot_be_brought_about_is_said(self):
         """An area that no moves lead to: the scale is on the bench, and the diverter still reads its record."""

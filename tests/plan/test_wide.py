@@ -204,7 +204,7 @@ class Areas(Widened):
                 at = OBJECTS_FROM + RECORD_BYTES * (n - 1)
                 spoiled = bytearray(area)
                 spoiled[at + byte] = 1
-                said = f"byte {at}: the tables have no object {n}, and the area has something there"
+                said = f"byte {at}, object {n}: the tables have no such object, and the area has something there"
                 self.assertEqual(self.stored(spoiled), (2, "", f"plan: stored: {said}\n"))
 
 

@@ -2,6 +2,7 @@
 
 How long it is goes by how many objects the line has, and by nothing else: `room`.
 """
+from . import finding
 from . import wording as w
 from .book import NONE, State
 from .visit import raw_words
@@ -10,6 +11,7 @@ STANDINGS = w.LIMITS["partitions"] + 1
 DRIVERS_AT = STANDINGS
 CARDS_AT = DRIVERS_AT + w.LIMITS["drivers"]
 OBJECTS_AT = CARDS_AT + w.LIMITS["cards"]
+BYTES_OF = {w.DRIVER: range(DRIVERS_AT, CARDS_AT), w.DEVICE: range(CARDS_AT, OBJECTS_AT)}
 RECORD = 1 + w.CONTENT_BYTES
 SMALL_ROOM, WIDE_ROOM = w.LIMITS["objects of a small line"], w.LIMITS["objects"]
 NEVER, EXISTING, DESTROYED = range(3)
@@ -61,16 +63,31 @@ def unwrap(data, config, line):
         raise AreaError(other_length(config, len(data)))
     if not data.startswith(MARK):
         raise AreaError(f"does not begin with {MARK.decode()}, as the example controller stores it")
-    if digest(data[:-DIGEST_BYTES]) != data[-DIGEST_BYTES:]:
-        raise AreaError("is damaged: its checksum does not fit")
     body = data[len(MARK):-DIGEST_BYTES]
-    if body[:DIGEST_BYTES] != digest(line):
+    own, area = body[:DIGEST_BYTES] == digest(line), body[DIGEST_BYTES:]
+    if digest(data[:-DIGEST_BYTES]) != data[-DIGEST_BYTES:]:
+        # It is not to be used, whatever is in it; but what shows of the damage may help.
+        shown = take_area(config, area)[1] if own else []
+        raise AreaError("\n".join(["is damaged: its checksum does not fit"] + shown))
+    if not own:
         raise AreaError("was stored with another line file than these tables make")
-    return body[DIGEST_BYTES:]
+    return area
 
 
 def read_area(config, data):
     """The state in an area; AreaError with all that cannot be a state of this line."""
+    state, faults = take_area(config, data)
+    if faults:
+        raise AreaError("\n".join(faults))
+    return state
+
+
+def take_area(config, data):
+    """The state in an area, and the faults for which it can be none of this line.
+
+    A fault in an object's record has the object's number behind the byte. The first of these is the record that the
+    library's `gate_first_bad` names; stored cases hold the two together.
+    """
     state, faults = State(), []
     for number in range(STANDINGS):
         if data[number] > DESTROYED or number == NONE and data[number]:
@@ -79,53 +96,54 @@ def read_area(config, data):
             state.created[number] = IN_AREA
             if data[number] == DESTROYED:
                 state.destroyed[number] = IN_AREA
-    state.drivers = places(state, data, DRIVERS_AT, w.LIMITS["drivers"], config.drivers, "driver", faults)
-    state.devices = places(state, data, CARDS_AT, w.LIMITS["cards"], config.devices, "card", faults)
+    state.drivers = places(config, state, data, w.DRIVER, faults)
+    state.devices = places(config, state, data, w.DEVICE, faults)
     for number in range(1, room(config) + 1):
         at = OBJECTS_AT + RECORD * (number - 1)
         take_object(config, state, number, data[at:at + RECORD], at, faults)
-    if faults:
-        raise AreaError("\n".join(faults))
-    return state
+    return state, faults
 
 
-def places(state, data, start, most, crew, word, faults):
+def places(config, state, data, owner_class, faults):
     """The partitions of drivers or cards."""
-    found = {}
-    for number in range(1, most + 1):
-        at = start + number - 1
+    found, crew = {}, config.drivers if owner_class == w.DRIVER else config.devices
+    for number, at in enumerate(BYTES_OF[owner_class], 1):
         if number in crew:
             found[number] = data[at]
-            check_place(state, data[at], at, f"{word} {number}", faults)
+            check_place(config, state, data[at], f"byte {at}: {config.actor(owner_class, number)}", faults)
         elif data[at]:
-            faults.append(f"byte {at}: the tables have no {word} {number}, and the area has it in {data[at]}")
+            faults.append(f"byte {at}: the tables have no {w.OWNERS[owner_class]} {number}, and the area has it "
+                          f"{finding.place(config, data[at])}")
     return found
 
 
-def check_place(state, place, at, what, faults):
+def check_place(config, state, place, what, faults):
     if place and not state.exists(place):
-        faults.append(f"byte {at}: {what} is in partition {place}, which does not exist in the area")
+        faults.append(f"{what} is in {config.full_partition(place)}, which does not exist in the area")
 
 
 def take_object(config, state, number, record, at, faults):
     """An object's partition and contents, which must fit its owner and its kind."""
+    spot, inside = f"byte {at}, object {number}:", f"byte {at + 1}, object {number}:"
     if number not in config.objects:
         if any(record):
-            faults.append(f"byte {at}: the tables have no object {number}, and the area has something there")
+            faults.append(f"{spot} the tables have no such object, and the area has something there")
         return
     one, place, raw = config.objects[number], record[0], record[1:]
     state.objects[number] = place
-    check_place(state, place, at, one.name, faults)
-    if one.owner_class != w.EXTERNAL and place != state.actor(one.owner_class, one.owner):
-        faults.append(f"byte {at}: {config.describe(number)} is in {place}, and its owner is not")
+    check_place(config, state, place, f"{spot} {config.describe(number)}", faults)
+    home = state.actor(one.owner_class, one.owner)
+    if one.owner_class != w.EXTERNAL and place != home:
+        faults.append(f"{spot} {config.describe(number)} is {finding.place(config, place)}, and "
+                      f"{config.actor(one.owner_class, one.owner)} is {finding.place(config, home)}")
     if not config.is_descriptor(number):
         state.contents[number] = raw
         return
     state.contents[number] = raw[0]
     if raw[0] > len(config.values) or any(raw[1:]):
-        faults.append(f"byte {at + 1}: what {config.describe(number)} holds is no value of the tables")
+        faults.append(f"{inside} what {config.describe(number)} holds is no value of the tables")
     elif one.kind == w.HARDCODED and one.owner in config.devices and raw[0] != config.devices[one.owner].hardcoded:
-        faults.append(f"byte {at + 1}: {config.describe(number)} holds '{config.value(raw[0])}', and by cards.csv "
+        faults.append(f"{inside} {config.describe(number)} holds '{config.value(raw[0])}', and by cards.csv "
                       f"'{config.value(config.devices[one.owner].hardcoded)}'")
 
 
@@ -156,17 +174,15 @@ def differences(config, wanted, made):
     def standing(state, number):
         return "destroyed" if number in state.destroyed else "there" if number in state.created else "never used"
 
-    def place(number):
-        return f"in {config.partition(number)}" if number else "in no partition"
-
     found = [(config.full_partition(n), standing(wanted, n), standing(made, n)) for n in range(1, STANDINGS)]
     for owner_class in (w.DRIVER, w.DEVICE):
         crew = wanted.drivers if owner_class == w.DRIVER else wanted.devices
-        found += [(config.actor(owner_class, n), place(wanted.actor(owner_class, n)), place(made.actor(owner_class, n)))
-                  for n in crew]
+        found += [(config.actor(owner_class, n),
+                   *(finding.place(config, state.actor(owner_class, n)) for state in (wanted, made))) for n in crew]
     for n, one in config.objects.items():
         if one.owner_class == w.EXTERNAL:
-            found.append((config.describe(n), place(wanted.objects[n]), place(made.objects[n])))
+            found.append((config.describe(n),
+                          *(finding.place(config, state.objects[n]) for state in (wanted, made))))
         found.append((f"what {config.describe(n)} holds",
                       *(content_words(config, n, state.contents[n]) for state in (wanted, made))))
     return [f"{what}: {first}, and not {second}" for what, first, second in found if first != second]
