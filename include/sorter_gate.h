@@ -2,13 +2,14 @@
  * The sorter gate: judges the operations that move devices, drivers and objects between partitions.
  *
  * Every call answers a number: 0 is accepted, any other is the first question of document 01 that is answered with no
- * (the list is below). The answers of gate_rewrite and gate_state_bytes alone have a kind beside their number. Calls
- * keep nothing between them, use no heap and no global, and always return.
+ * (the list is below). The answers of gate_state_bytes, gate_first_bad and gate_rewrite alone have a kind beside their
+ * number. Calls keep nothing between them, use no heap and no global, and always return.
  *
  * The caller lends byte areas by pointer and length. A pointer is valid for its length, of any alignment, and is not
  * null, even at length 0. An area that is written (state, answer, out) overlaps no other area of the call, and nobody
  * else touches it during the call; line and record are only read, may overlap each other, and nobody writes to them
- * during the call. Any length and any content is answered.
+ * during the call. The same holds of the state where it is only read, by gate_first_bad. Any length and any content is
+ * answered.
  *
  * SPDX-License-Identifier: MIT
  */
@@ -95,7 +96,7 @@ enum sorter_gate_answer {
  */
 /* begin kinds: made by tests/tables from tables/kinds.ini */
 enum sorter_gate_kind {
-    SORTER_GATE_DONE = 0,    /* the number is the length: written, or of the state area */
+    SORTER_GATE_DONE = 0,    /* the number is the length, written or of the state area, or a record's place */
     SORTER_GATE_REFUSED = 1, /* the number is the question that was answered with no */
     SORTER_GATE_SHORT = 2    /* the number is the length that is needed */
 };
@@ -130,6 +131,16 @@ uint32_t gate_fresh(const uint8_t *line, size_t line_len, uint8_t *state, size_t
  */
 uint32_t gate_operate(const uint8_t *line, size_t line_len, uint8_t *state, size_t state_len, const uint8_t *record,
                       size_t record_len, uint8_t *answer, size_t answer_len);
+
+/*
+ * Tells of a state area which object's record is the first that breaks a rule of question 9, for whoever looks at a
+ * damaged one. The answer has a kind. Done: the number is the record's place from 1 on, which is its object's number; a
+ * place above the line's count of objects is that of a record that has to be 0; and 0 is that no record breaks a rule.
+ * Refused: the number is the first of questions 1 to 7 that is answered with no. Changes nothing. The place 0 does not
+ * say that the state is well formed: where gate_operate answers 9 all the same, the fault is in the bytes of
+ * partitions, drivers or cards.
+ */
+uint64_t gate_first_bad(const uint8_t *line, size_t line_len, const uint8_t *state, size_t state_len);
 
 /*
  * Loads a line file and writes the line that was loaded into `out`: an accepted file comes out byte for byte. The

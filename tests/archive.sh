@@ -1,5 +1,5 @@
 #!/usr/bin/env bash
-# The archive that a controller links: it exports the five functions and nothing else, needs memcpy and memset at most,
+# The archive that a controller links: it exports the six functions and nothing else, needs memcpy and memset at most,
 # and has no byte that can be written. The same is asked of small archives that are wrong in one point each, and that
 # must be told.
 #   archive.sh [ARCHIVE]
@@ -8,7 +8,7 @@ cd "$(dirname "$0")/.."
 export LC_ALL=C
 out=$(mktemp -d)
 trap 'rm -rf "$out"' EXIT
-all="gate_fresh gate_load_check gate_operate gate_rewrite gate_state_bytes"
+all="gate_first_bad gate_fresh gate_load_check gate_operate gate_rewrite gate_state_bytes"
 
 # The names of an archive's global symbols, in one row; a further word chooses which.
 names() {
@@ -30,7 +30,7 @@ faults() {
     [ "$written" = "0 and 0" ] || echo "has bytes of data and of bss: $written"
 }
 
-# An archive of five such functions, with a declaration before them and what the last one does.
+# An archive of six such functions, with a declaration before them and what the last one does.
 small_archive() {
     cat > "$out/small.c" << END
 #include <stdlib.h>
@@ -40,6 +40,7 @@ int gate_load_check(char *to, const char *from, size_t n) { memcpy(to, from, n);
 int gate_fresh(char *to, size_t n) { memset(to, 0, n); return 0; }
 int gate_rewrite(char *to, const char *from, size_t n) { memcpy(to, from, n); return 0; }
 int gate_state_bytes(const char *from, size_t n) { return n > 0 && from[0] == 1; }
+int gate_first_bad(const char *from, size_t n) { return n > 0 && from[0] == 2; }
 int gate_operate(char *to, const char *from, size_t n) { $2; }
 END
     gcc -std=c11 -O1 -Wall -Werror "${@:3}" -c -o "$out/small.o" "$out/small.c"
@@ -67,12 +68,13 @@ must_tell "$more" '__attribute__((weak)) int extra(void) { return 0; }' 'return 
 must_tell "$more" '__attribute__((visibility("hidden"))) int extra(void) { return 0; }' 'return 0'
 must_tell "$more" 'const int extra = 3;' 'return 0'
 must_tell "$more" 'int extra;' 'return 0' -fcommon
-must_tell "exports gate_fresh gate_load_check gate_rewrite gate_state_bytes other" '#define gate_operate other' \
-    'return 0'
-must_tell "exports gate_fresh gate_load_check gate_operate gate_state_bytes" \
-    'static int gate_rewrite(char *, const char *, size_t);' 'return gate_rewrite(to, from, n)'
-must_tell "exports gate_fresh gate_load_check gate_operate gate_rewrite" \
-    'static int gate_state_bytes(const char *, size_t);' 'return gate_state_bytes(to, n) + (from == to)'
+must_tell "exports ${all/gate_operate /} other" '#define gate_operate other' 'return 0'
+must_tell "exports ${all/gate_rewrite /}" 'static int gate_rewrite(char *, const char *, size_t);' \
+    'return gate_rewrite(to, from, n)'
+must_tell "exports ${all/ gate_state_bytes/}" 'static int gate_state_bytes(const char *, size_t);' \
+    'return gate_state_bytes(to, n) + (from == to)'
+must_tell "exports ${all/gate_first_bad /}" 'static int gate_first_bad(const char *, size_t);' \
+    'return gate_first_bad(to, n) + (from == to)'
 must_tell "needs malloc" '' 'return malloc(n) != NULL'
 must_tell "needs memmove" '' 'memmove(to, from, n); return 0'
 must_tell "$bytes 0 and 4" 'int extra;' 'return 0' -fno-common

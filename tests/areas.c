@@ -5,6 +5,7 @@
 #include <stdarg.h>
 #include <stdio.h>
 #include <stdlib.h>
+#include <string.h>
 #include <sys/mman.h>
 #include <ucontext.h>
 #include <unistd.h>
@@ -17,7 +18,7 @@ enum { FORBIDDEN = 256 * PAGE, SIGNAL_STACK = 64 * 1024, WRITE_FAULT = 2 };
 struct area areas[AREAS];
 struct trial trial = {"the test itself", ENDS_AT_BORDER, 0, 0};
 
-static const char *const AREA_TEXTS[AREAS] = {"line", "state", "record", "answer", "out"};
+static const char *const AREA_TEXTS[AREAS] = {"line", "state", "record", "answer", "out", "state"};
 static const char *const PLACE_TEXTS[PLACES] = {"end", "begin"};
 static uint8_t signal_stack[SIGNAL_STACK];
 
@@ -35,6 +36,11 @@ uint8_t *lent_start(enum area_name name) {
 
 const char *area_text(enum area_name name) {
     return AREA_TEXTS[name];
+}
+
+void put_area(enum area_name name, const uint8_t *bytes, size_t length) {
+    areas[name].length = length;
+    memcpy(own_start(name), bytes, length);
 }
 
 static void tell(const char *format, va_list values) {
@@ -76,7 +82,8 @@ static void *checked(void *mapping, const char *what) {
 }
 
 static void make_area(enum area_name name) {
-    int permissions = name == LINE || name == RECORD ? PROT_READ : PROT_READ | PROT_WRITE;
+    int only_read = name == LINE || name == RECORD || name == STORED;
+    int permissions = only_read ? PROT_READ : PROT_READ | PROT_WRITE;
     int memory = memfd_create(area_text(name), 0);
     if (memory < 0 || ftruncate(memory, PAGE)) {
         perror("garbage: memory for an area");

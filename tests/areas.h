@@ -8,7 +8,8 @@
 
 enum { PAGE = 4096 };
 
-enum area_name { LINE, STATE, RECORD, ANSWER, OUT, AREAS };
+// STORED is a state area for the call that only reads it.
+enum area_name { LINE, STATE, RECORD, ANSWER, OUT, STORED, AREAS };
 
 // Where an area stands in its page: it ends where the forbidden page behind begins, or begins where the one before
 // ends.
@@ -31,15 +32,18 @@ struct trial {
 extern struct area areas[AREAS];
 extern struct trial trial;
 
-// Makes the areas, and has faults told. Line and record are lent without the permission to write.
+// Makes the areas, and has faults told. Line, record and stored state are lent without the permission to write.
 void make_areas(void);
 
 // The first byte of an area, in the test's view and in the library's.
 uint8_t *own_start(enum area_name name);
 uint8_t *lent_start(enum area_name name);
 
-// The area's name, for a message.
+// The area's name, for a message: that of the header's parameter.
 const char *area_text(enum area_name name);
+
+// Bytes stand in an area.
+void put_area(enum area_name name, const uint8_t *bytes, size_t length);
 
 // Tells what went wrong and at which input, and ends the program with 1.
 void complain(const char *format, ...) __attribute__((noreturn, format(printf, 1, 2)));

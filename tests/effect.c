@@ -3,7 +3,7 @@
 #include "effect.h"
 
 // The state area: standings, drivers, devices, then a partition and sixteen bytes for each object.
-enum { DRIVERS_FROM = 64, DEVICES_FROM = 80, OBJECTS_FROM = 96 };
+enum { DRIVERS_FROM = MOST_PARTITION + 1, DEVICES_FROM = DRIVERS_FROM + MOST_OWNERS };
 enum { EXISTING = 1, DESTROYED = 2 };
 
 // A number in groups of seven bits, the lowest first.
@@ -49,8 +49,16 @@ const uint8_t *object_in_line(const uint8_t *line, unsigned object) {
     return values_count(line) + 1 + 3 * (object - 1);
 }
 
+unsigned room_of(const uint8_t *line) {
+    return objects_of(line) <= MOST_SMALL ? MOST_SMALL : MOST_OBJECTS;
+}
+
+size_t record_at(unsigned object) {
+    return OBJECTS_FROM + RECORD_BYTES * (size_t)(object - 1);
+}
+
 size_t state_bytes_of(const uint8_t *line) {
-    return OBJECTS_FROM + (CONTENT + 1u) * (objects_of(line) <= MOST_SMALL ? MOST_SMALL : MOST_OBJECTS);
+    return record_at(room_of(line) + 1);
 }
 
 static int within(unsigned number, unsigned most) {
@@ -183,20 +191,72 @@ int record_fits(const uint8_t *line, const uint8_t *record, size_t length) {
 }
 
 static uint8_t *partition_of(uint8_t *state, unsigned object) {
-    return state + OBJECTS_FROM + (CONTENT + 1) * (object - 1);
+    return state + record_at(object);
 }
 
 static uint8_t *content_of(uint8_t *state, unsigned object) {
     return partition_of(state, object) + 1;
 }
 
+// The value number of a device's hardcoded descriptor.
+static uint8_t hardcoded_value(const uint8_t *line, uint8_t device) {
+    return object_in_line(line, objects_of(line) + 1u)[device - 1];
+}
+
+// Where the state area has the partition of an owner.
+static size_t owner_at(uint8_t class, uint8_t owner) {
+    return (class == BY_DRIVER ? DRIVERS_FROM : DEVICES_FROM) + owner - 1u;
+}
+
+static int all_zero(const uint8_t *bytes, size_t count) {
+    for (size_t i = 0; i < count; i++) {
+        if (bytes[i]) {
+            return 0;
+        }
+    }
+    return 1;
+}
+
+// Whether an object of the line holds what its kind may hold.
+static int content_right(const uint8_t *line, const uint8_t *declared, const uint8_t *content) {
+    if (declared[0] != TRANSFER && declared[0] != HARDCODED) {
+        return 1;
+    }
+    int known =
+        declared[0] == TRANSFER ? content[0] <= values_of(line) : content[0] == hardcoded_value(line, declared[2]);
+    return known && all_zero(content + 1, CONTENT - 1);
+}
+
+// Whether the record of an object, which the line may not have, keeps the rules of a well formed state.
+static int record_right(const uint8_t *line, const uint8_t *state, unsigned object) {
+    const uint8_t *record = state + record_at(object);
+    if (object > objects_of(line)) {
+        return all_zero(record, RECORD_BYTES);
+    }
+    const uint8_t *declared = object_in_line(line, object);
+    if (record[0] && (record[0] > MOST_PARTITION || state[record[0]] != EXISTING)) {
+        return 0;
+    }
+    if (declared[1] != EXTERNAL && record[0] != state[owner_at(declared[1], declared[2])]) {
+        return 0;
+    }
+    return content_right(line, declared, record + 1);
+}
+
+unsigned first_bad_of(const uint8_t *line, const uint8_t *state) {
+    unsigned object = 1;
+    while (object <= room_of(line) && record_right(line, state, object)) {
+        object++;
+    }
+    return object <= room_of(line) ? object : 0;
+}
+
 void follow_fresh(const uint8_t *line, uint8_t *state) {
-    const uint8_t *hardcoded_values = object_in_line(line, objects_of(line) + 1u);
     memset(state, 0, state_bytes_of(line));
     for (unsigned object = 1; object <= objects_of(line); object++) {
         const uint8_t *declared = object_in_line(line, object);
         if (declared[0] == HARDCODED) {
-            content_of(state, object)[0] = hardcoded_values[declared[2] - 1];
+            content_of(state, object)[0] = hardcoded_value(line, declared[2]);
         }
     }
 }
@@ -210,7 +270,7 @@ static void move_object(const uint8_t *line, uint8_t *state, unsigned object, ui
 }
 
 static void move_owner(const uint8_t *line, uint8_t *state, uint8_t class, uint8_t owner, uint8_t partition) {
-    state[(class == BY_DRIVER ? DRIVERS_FROM : DEVICES_FROM) + owner - 1] = partition;
+    state[owner_at(class, owner)] = partition;
     for (unsigned object = 1; object <= objects_of(line); object++) {
         const uint8_t *declared = object_in_line(line, object);
         if (declared[1] == class && declared[2] == owner) {

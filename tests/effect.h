@@ -1,5 +1,5 @@
 // What can be accepted, and what an accepted call leaves, as document 01 says: the whole state area, and the bytes that
-// a read puts down.
+// a read puts down; and which record of a state area is the first that breaks a rule.
 #ifndef EFFECT_H
 #define EFFECT_H
 
@@ -24,16 +24,23 @@ enum { CONTENT = 16 };
 // each object that there may be.
 enum { MOST_SMALL = 96 };
 
+// Where a state area has its first record, and the bytes of one: an object's partition, and its contents.
+enum { OBJECTS_FROM = MOST_PARTITION + 1 + 2 * MOST_OWNERS, RECORD_BYTES = 1 + CONTENT };
+
 // The number at a place before the end: where the next one stands; NULL if questions 1 and 2 refuse it.
 const uint8_t *number_at(const uint8_t *at, const uint8_t *end, unsigned *number);
 
 // Puts a number of at most two bytes down; where the next one stands.
 uint8_t *put_number(uint8_t *at, unsigned number);
 
-// The counts of objects and values of an accepted line file, and the length of its state area.
+// The counts of objects and values of an accepted line file; the records of its state area, and the area's length.
 unsigned objects_of(const uint8_t *line);
 unsigned values_of(const uint8_t *line);
+unsigned room_of(const uint8_t *line);
 size_t state_bytes_of(const uint8_t *line);
+
+// Where a state area has the record of an object.
+size_t record_at(unsigned object);
 
 // The three numbers of an object in an accepted line file: kind, owner class, owner number. Behind the last object's
 // are the devices' hardcoded value numbers.
@@ -44,6 +51,10 @@ int line_fits(const uint8_t *line, size_t length);
 
 // Whether a record meets questions 10 and 11 on such a line.
 int record_fits(const uint8_t *line, const uint8_t *record, size_t length);
+
+// The first object whose record in the state area of an accepted line file breaks a rule of a well formed state, also
+// one that the line does not have; 0 if none does. The area has the length that the line needs.
+unsigned first_bad_of(const uint8_t *line, const uint8_t *state);
 
 // Makes of a state area the fresh one of an accepted line file.
 void follow_fresh(const uint8_t *line, uint8_t *state);

@@ -4,7 +4,7 @@
 //   FAULT AREA CALL   an access beside an area, or a change that document 01 does not allow, in one of the calls:
 //                     read-behind, read-before, read-empty, write-into, write-behind, write-before, change-refused,
 //                     change-accepted or change-short; line, state, record, answer or out; load_check, state_bytes,
-//                     fresh, operate or rewrite
+//                     fresh, operate, first_bad or rewrite
 //   constant NUMBER   every call answers the number and does nothing
 //   accept NUMBER     what is refused by the number is accepted, and nothing is done
 //   never NUMBER      the number is never answered, with a kind neither, another in its place
@@ -17,12 +17,20 @@
 //   small-only        question 7 is put with the small lines' length to wide lines too
 //   either            a small line is taken with the wide lines' length too, and uses the first bytes
 //   last-record       question 9 does not look at the last record of the longer area, if it is no object's
+//   last-record data  the same on lines of data alone
 //   modulo            an object from 128 on that is brought in alone is taken for one with a smaller number, modulo 128
 // Faults of gate_state_bytes alone:
 //   told ANSWER       it answers that
 //   one-off           it takes a line of 97 objects for a small one
 //   told-question     it refuses by the next question
 //   told-let-by       it tells a length for a line that it refuses
+// Faults of gate_first_bad alone:
+//   named ANSWER      it answers that
+//   named-more        it names the record behind the broken one, and the first where it has none to name
+//   named-less        it counts records from 0
+//   named-later       it names the second broken record where there are two
+//   named-question    it refuses by the next question
+//   named-let-by NUMBER   it names no record where it has to refuse by that question
 // Faults of gate_rewrite alone:
 //   always ANSWER     it answers that, and does nothing
 //   past              it clears the byte behind the file
@@ -46,18 +54,20 @@ uint64_t __real_gate_state_bytes(const uint8_t *line, size_t line_len);
 uint32_t __real_gate_fresh(const uint8_t *line, size_t line_len, uint8_t *state, size_t state_len);
 uint32_t __real_gate_operate(const uint8_t *line, size_t line_len, uint8_t *state, size_t state_len,
                              const uint8_t *record, size_t record_len, uint8_t *answer, size_t answer_len);
+uint64_t __real_gate_first_bad(const uint8_t *line, size_t line_len, const uint8_t *state, size_t state_len);
 uint64_t __real_gate_rewrite(const uint8_t *line, size_t line_len, uint8_t *out, size_t out_len);
 uint32_t __wrap_gate_load_check(const uint8_t *line, size_t line_len);
 uint64_t __wrap_gate_state_bytes(const uint8_t *line, size_t line_len);
 uint32_t __wrap_gate_fresh(const uint8_t *line, size_t line_len, uint8_t *state, size_t state_len);
 uint32_t __wrap_gate_operate(const uint8_t *line, size_t line_len, uint8_t *state, size_t state_len,
                              const uint8_t *record, size_t record_len, uint8_t *answer, size_t answer_len);
+uint64_t __wrap_gate_first_bad(const uint8_t *line, size_t line_len, const uint8_t *state, size_t state_len);
 uint64_t __wrap_gate_rewrite(const uint8_t *line, size_t line_len, uint8_t *out, size_t out_len);
 
 enum { AREAS = 5, PAGE = 4096, OWN_STACK = 256 * 1024, DEEP = 16 * 1024 };
 // Where a line has its count of objects, in one byte or, from LONG_FROM on, two; the least count of a wide line, and
-// the most that there can be; the bytes of a record in a state area.
-enum { OBJECTS_AT = 3, LONG_FROM = 128, FIRST_WIDE = 97, MOST_OBJECTS = 192, RECORD_BYTES = 17 };
+// the most that there can be; where a state area has its records, and the bytes of one.
+enum { OBJECTS_AT = 3, LONG_FROM = 128, FIRST_WIDE = 97, MOST_OBJECTS = 192, RECORDS_FROM = 96, RECORD_BYTES = 17 };
 
 // The areas of a call; the calls that have fewer leave the others out.
 struct lent {
@@ -66,8 +76,9 @@ struct lent {
     size_t length;
 };
 
-enum which { LOAD_CHECK, STATE_LENGTH, FRESH, OPERATE, REWRITE };
-static const char *const NAMES[] = {"load_check", "state_bytes", "fresh", "operate", "rewrite"};
+// Those whose answers have a kind are the last ones.
+enum which { LOAD_CHECK, FRESH, OPERATE, STATE_LENGTH, FIRST_BAD, REWRITE };
+static const char *const NAMES[] = {"load_check", "fresh", "operate", "state_bytes", "first_bad", "rewrite"};
 
 struct call {
     enum which which;
@@ -108,7 +119,7 @@ static void touch_beside(struct lent lent) {
 }
 
 static int has_kind(const struct call *call) {
-    return call->which == REWRITE || call->which == STATE_LENGTH;
+    return call->which >= STATE_LENGTH;
 }
 
 // What became of the call; where its answer has no kind, its number tells.
@@ -173,6 +184,30 @@ static void spoil_state_length(struct call *call) {
     call->answer += is("told-question") && kind == SORTER_GATE_REFUSED;
 }
 
+// The record that is named if the one that is named now is out of sight, as one of an inactive object of data.
+static uint64_t named_later(const struct call *call) {
+    static uint8_t copy[PAGE];
+    const struct lent *line = &call->areas[0], *state = &call->areas[1];
+    memcpy(copy, (const uint8_t *)state->at, state->length);
+    memset(copy + RECORDS_FROM + RECORD_BYTES * (call->answer - 1), 0, RECORD_BYTES);
+    return __real_gate_first_bad((const uint8_t *)line->at, line->length, copy, state->length);
+}
+
+// The faults of gate_first_bad, after the real call.
+static void spoil_first_bad(struct call *call) {
+    enum sorter_gate_kind kind = kind_of(call);
+    uint64_t number = SORTER_GATE_NUMBER(call->answer);
+    if (is("named") || (is("named-let-by") && kind == SORTER_GATE_REFUSED && number == wanted_number())) {
+        call->answer = is("named") ? wanted_number() : 0;
+    } else if (is("named-later") && kind == SORTER_GATE_DONE && number) {
+        uint64_t later = named_later(call);
+        call->answer = later ? later : number;
+    }
+    call->answer +=
+        (is("named-more") && kind == SORTER_GATE_DONE) || (is("named-question") && kind == SORTER_GATE_REFUSED);
+    call->answer -= is("named-less") && kind == SORTER_GATE_DONE && number;
+}
+
 // The faults of the calls whose answers have a kind.
 static void spoil_with_kind(struct call *call) {
     uint64_t number = SORTER_GATE_NUMBER(call->answer);
@@ -181,6 +216,8 @@ static void spoil_with_kind(struct call *call) {
     }
     if (call->which == REWRITE) {
         spoil_rewriting(call);
+    } else if (call->which == FIRST_BAD) {
+        spoil_first_bad(call);
     } else {
         spoil_state_length(call);
     }
@@ -214,6 +251,9 @@ static void go_on(struct call *call) {
         call->answer = __real_gate_operate(line, a[0].length, state, a[1].length, record, a[2].length,
                                            (uint8_t *)a[3].at, a[3].length);
         break;
+    case FIRST_BAD:
+        call->answer = __real_gate_first_bad(line, a[0].length, state, a[1].length);
+        break;
     case REWRITE:
         call->answer =
             __real_gate_rewrite(line, a[0].length, (uint8_t *)a[4].at, a[4].length - (is("exact") && a[4].length > 0));
@@ -237,14 +277,15 @@ static void go_on_mistaken(struct call *call) {
     int wide = state->at && state->length == SORTER_GATE_STATE_BYTES_WIDE;
     uint8_t smaller[4];
     if (is("small-only") && wide && SORTER_GATE_KIND(needed) == SORTER_GATE_DONE) {
-        call->answer = SORTER_GATE_STATE_LENGTH;
+        call->answer = has_kind(call) * (UINT64_C(1) << 32) + SORTER_GATE_STATE_LENGTH;
         return;
     }
     if (is("either") && wide && needed == SORTER_GATE_STATE_BYTES) {
         state->length = SORTER_GATE_STATE_BYTES;
     }
     if (is("last-record") && call->which == OPERATE && wide && needed == state->length &&
-        objects_of(call) < MOST_OBJECTS) {
+        objects_of(call) < MOST_OBJECTS &&
+        (strcmp(area, "data") || call->areas[0].length <= OBJECTS_AT + 3 + 3 * objects_of(call))) {
         go_on_without_last(call);
         return;
     }
@@ -343,6 +384,11 @@ uint32_t __wrap_gate_operate(const uint8_t *line, size_t line_len, uint8_t *stat
                          {"answer", answer, answer_len}},
                         0};
     return (uint32_t)spoilt(&call);
+}
+
+uint64_t __wrap_gate_first_bad(const uint8_t *line, size_t line_len, const uint8_t *state, size_t state_len) {
+    struct call call = {FIRST_BAD, {{"line", (uint8_t *)line, line_len}, {"state", (uint8_t *)state, state_len}}, 0};
+    return spoilt(&call);
 }
 
 uint64_t __wrap_gate_rewrite(const uint8_t *line, size_t line_len, uint8_t *out, size_t out_len) {

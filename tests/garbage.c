@@ -1,10 +1,11 @@
-// Throws random and mutated inputs of every length at the five functions, twice: in the first pass each area ends where
+// Throws random and mutated inputs of every length at the six functions, twice: in the first pass each area ends where
 // a forbidden page begins, in the second each begins where one ends, and line and record cannot be written. So a byte
 // that is read or written beside an area is seen. A refusal leaves state and answer area as they were, an accepted call
 // leaves what document 01 says; the same inputs get the same answers in both passes; and in each pass, on small lines
 // and on wide ones, every number is answered, every code is accepted and an area of the other lines' length is refused,
 // and every area is empty at least once. Then in each pass what tests/rooms.c tries out one by one.
-// (tests/rewriting.c and tests/state_bytes.c hold the functions whose answers have a kind to what they must answer.)
+// (tests/rewriting.c, state_bytes.c and first_bad.c hold the functions whose answers have a kind to what they must
+// answer.)
 //   garbage TIMES SEED   makes TIMES calls in each pass; prints how often each number came, and each code was accepted;
 //                        to be called in the repository's root
 #include <stdio.h>
@@ -13,6 +14,7 @@
 
 #include "areas.h"
 #include "effect.h"
+#include "first_bad.h"
 #include "inputs.h"
 #include "rewriting.h"
 #include "rooms.h"
@@ -38,6 +40,7 @@ struct tally {
     unsigned long numbers[SIZES][NUMBERS], codes[SIZES][CODES], other_length[SIZES], long_named, empty[CALLS][AREAS];
     struct rewritings rewritings;
     struct state_lengths state_lengths;
+    struct first_bads first_bads;
     struct rooms rooms;
 };
 
@@ -62,11 +65,6 @@ static size_t other_length(void) {
 
 static uint8_t *expected_start(enum area_name name) {
     return expected[name] + (own_start(name) - areas[name].own);
-}
-
-static void put(enum area_name name, const uint8_t *bytes, size_t length) {
-    areas[name].length = length;
-    memcpy(own_start(name), bytes, length);
 }
 
 static uint32_t make_call(enum call call) {
@@ -167,7 +165,7 @@ static size_t some_length(size_t wanted) {
 
 static void begin_session(struct tally *tally) {
     sound_length = sound_line(sound);
-    put(LINE, sound, sound_length);
+    put_area(LINE, sound, sound_length);
     areas[STATE].length = state_bytes_of(sound);
     uint32_t number = checked_call(FRESH, tally);
     if (number) {
@@ -180,13 +178,26 @@ static size_t some_state_length(void) {
     return below(60) ? some_length(state_bytes_of(sound)) : other_length();
 }
 
+// Looks at a state area that may be damaged, by a record of length 0, and asks which record is broken. The area is put
+// back.
+static void look(struct tally *tally) {
+    static uint8_t before[PAGE];
+    areas[STATE].length = some_state_length();
+    areas[RECORD].length = 0;
+    areas[ANSWER].length = some_length(SORTER_GATE_ANSWER_BYTES);
+    memcpy(before, areas[STATE].own, PAGE);
+    spoil_state(sound);
+    checked_first_bad(checked_call(OPERATE, tally), &tally->first_bads);
+    memcpy(areas[STATE].own, before, PAGE);
+}
+
 // One call on inputs that may all be spoilt, the first ones of a state mostly to bring things in. A fresh state is made
 // seldom, since all is out again after it. A byte of the state that was spoilt in vain is put back.
 static void go_on(struct tally *tally) {
     static uint8_t bytes[PAGE];
     size_t kind = below(64);
     enum call call = kind < 2 ? LOAD_CHECK : kind < 4 ? FRESH : OPERATE;
-    put(LINE, bytes, any_line(sound, sound_length, bytes));
+    put_area(LINE, bytes, any_line(sound, sound_length, bytes));
     if (kind >= 54) {
         spoil_line();
         uint32_t loaded = checked_call(LOAD_CHECK, tally);
@@ -196,8 +207,12 @@ static void go_on(struct tally *tally) {
         }
         return;
     }
+    if (kind >= 50) {
+        look(tally);
+        return;
+    }
     size_t record_length = below(8) ? opening_record(sound, step, bytes) : 0;
-    put(RECORD, bytes, record_length ? record_length : any_record(sound, bytes));
+    put_area(RECORD, bytes, record_length ? record_length : any_record(sound, bytes));
     areas[STATE].length = call == FRESH && below(4) ? below(2) * below(PAGE) : some_state_length();
     areas[ANSWER].length = some_length(SORTER_GATE_ANSWER_BYTES + below(40));
     size_t place = below(areas[STATE].length);
@@ -228,7 +243,7 @@ static void demand_of(const struct tally *tally, int size) {
     }
 }
 
-static void demand(const struct tally *tally) {
+static void demand_all(const struct tally *tally) {
     trial.call = "the library";
     for (int size = SMALL; size < SIZES; size++) {
         demand_of(tally, size);
@@ -245,6 +260,7 @@ static void demand(const struct tally *tally) {
     }
     demand_rewritings(&tally->rewritings);
     demand_state_bytes(&tally->state_lengths);
+    demand_first_bads(&tally->first_bads);
 }
 
 // The same inputs in each pass.
@@ -264,7 +280,7 @@ static void run_pass(enum place place, unsigned long times, uint64_t seed, struc
             go_on(tally);
         }
     }
-    demand(tally);
+    demand_all(tally);
     checked_rooms(&tally->rooms);
 }
 
@@ -300,6 +316,7 @@ int main(int argc, char **argv) {
     }
     print_rewritings(&first->rewritings);
     print_state_bytes(&first->state_lengths);
+    print_first_bads(&first->first_bads);
     print_rooms(&first->rooms);
     return 0;
 }

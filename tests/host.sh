@@ -12,15 +12,18 @@ trap 'rm -rf "$out"' EXIT
 # The sanitizers watch the test's own code alone: the library is not built for them.
 flags=(-std=c11 -O2 -Wall -Wextra -Werror -Iinclude -g -fsanitize=address,undefined)
 parts=()
-for name in garbage areas effect inputs rewriting state_bytes rooms faulty; do
+for name in garbage areas effect inputs refusals rewriting state_bytes first_bad rooms faulty; do
     gcc "${flags[@]}" -c -o "$out/$name.o" "tests/$name.c"
     [ $name = faulty ] || parts+=("$out/$name.o")
 done
 gcc "${flags[@]}" -o "$out/garbage" "${parts[@]}" target/staticlib/libgate.a
 "$out/garbage" "${1:-1000000}" "${2:-1}"
 
-gcc "${flags[@]}" -o "$out/faulty" "${parts[@]}" "$out/faulty.o" target/staticlib/libgate.a \
-    -Wl,--wrap=gate_load_check,--wrap=gate_state_bytes,--wrap=gate_fresh,--wrap=gate_operate,--wrap=gate_rewrite
+wrapped=()
+for name in load_check state_bytes fresh operate first_bad rewrite; do
+    wrapped+=("-Wl,--wrap=gate_$name")
+done
+gcc "${flags[@]}" -o "$out/faulty" "${parts[@]}" "$out/faulty.o" target/staticlib/libgate.a "${wrapped[@]}"
 few=100000
 seen=0
 
@@ -103,11 +106,33 @@ wrong_state_bytes() {
     must_tell "told $((2 << 32 | 1728))" "gate_state_bytes answered the kind 2, which is none of its kinds"
 }
 
+# What gate_first_bad may not answer.
+wrong_first_bad() {
+    local named="gate_first_bad named record" first="and the first that breaks a rule is"
+    must_tell "named-more" "$named ([0-9]+), $first [0-9]+"
+    must_tell "named-less" "$named [0-9]+, $first [0-9]+"
+    must_tell "named-later" "$named [0-9]+, $first [0-9]+"
+    must_tell "named-question" "gate_first_bad refused by [2-8] what an operation answers by [1-7]"
+    for number in 1 6 7; do
+        must_tell "named-let-by $number" "gate_first_bad did not refuse what an operation refuses by $number"
+    done
+    # A constant: no record, the first one, one that no area has, refused by 3, by none and by 7, and another kind.
+    must_tell "named 0" "($named 0, $first [1-9][0-9]*|gate_first_bad did not .*)"
+    must_tell "named 1" "($named 1, $first ([02-9]|[1-9][0-9]+)|gate_first_bad did not .*)"
+    must_tell "named 193" "($named 193, $first [0-9]+|gate_first_bad did not .*)"
+    must_tell "named $((1 << 32 | 3))" "gate_first_bad refused by 3 what an operation answers by ([^3]|[0-9]+)"
+    must_tell "named $((1 << 32))" "gate_first_bad refused by 0 what an operation answers by [0-9]+"
+    must_tell "named $((1 << 32 | 7))" "gate_first_bad refused by 7 what an operation answers by ([^7]|[0-9]+)"
+    must_tell "named $((2 << 32))" "gate_first_bad answered the kind 2, which is none of its kinds"
+}
+
 # What concerns the length of a state area, and the objects whose numbers have two bytes.
 wrong_rooms() {
     must_tell "small-only" "gate_fresh refused a fresh state of a sound line by 7"
     must_tell "either" "gate_(fresh|operate) accepted \(0\) a length that it must refuse"
-    must_tell "last-record" "gate_operate answered 10, and not 9, for a byte of an absent object at place [0-9]+"
+    must_tell "last-record" \
+        "gate_first_bad named record 192 of a state that an operation, answered by 10, found well formed"
+    must_tell "last-record data" "gate_operate answered 10, and not 9, for a byte of an absent object at place [0-9]+"
     must_tell "modulo" "gate_operate accepted \(0\), and did not leave the state as document 01 says at place [0-9]+"
 }
 
@@ -120,11 +145,14 @@ stray_reads line load_check
 stray_reads line fresh
 stray_reads state fresh
 stray_reads line state_bytes
+stray_reads line first_bad
+stray_reads state first_bad
 stray_reads line rewrite
 stray_reads out rewrite
-for call in load_check state_bytes fresh operate rewrite; do
+for call in load_check state_bytes fresh operate first_bad rewrite; do
     stray_stores line $call
 done
+stray_stores state first_bad
 stray_stores record operate
 stray_changes state fresh
 stray_changes state operate
@@ -132,6 +160,7 @@ stray_changes answer operate
 stray_rewriting
 wrong_rewriting
 wrong_state_bytes
+wrong_first_bad
 wrong_rooms
 must_tell "constant 0" "gate_fresh accepted \(0\), and did not leave the state as document 01 says at place [0-9]+"
 must_tell "constant 7" "gate_fresh refused a fresh state of a sound line by 7"

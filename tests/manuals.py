@@ -177,14 +177,18 @@ def check_library():
 
 def check_c(copy):
     """The C lines of docs/CONTROLLER.md compile, each block in a function that has the areas by their names; what is
-    done with a written file is the host's. A block ends with the answer in `n`."""
-    made = ['#include "sorter_gate.h"', "void put_down(const uint8_t *file, size_t length);"]
+    done with a written file or a broken record is the host's. A block ends with the answer in `n`."""
+    made = ['#include "sorter_gate.h"', "void put_down(const uint8_t *file, size_t length);",
+            "void look_at(uint64_t object);"]
     for place, lines in enumerate(blocks("docs/CONTROLLER.md", "c")):
-        head = f"call_{place}(const uint8_t *line, size_t line_len, uint8_t *out, size_t out_len)"
-        made += [f"uint64_t {head};", f"uint64_t {head} {{", "(void)out, (void)out_len;", f"{lines}return n;", "}"]
-    if any(call not in "".join(made) for call in ("gate_state_bytes", "gate_operate", "gate_rewrite")):
-        raise Fault("docs/CONTROLLER.md: its C lines do not show a call that tells a length, one that judges and one "
-                    "that saves")
+        head = (f"call_{place}(const uint8_t *line, size_t line_len, const uint8_t *area, size_t area_len, "
+                "uint8_t *out, size_t out_len)")
+        made += [f"uint64_t {head};", f"uint64_t {head} {{", "(void)area, (void)area_len, (void)out, (void)out_len;",
+                 f"{lines}return n;", "}"]
+    shown = ("gate_state_bytes", "gate_operate", "gate_first_bad", "gate_rewrite")
+    if any(call not in "".join(made) for call in shown):
+        raise Fault("docs/CONTROLLER.md: its C lines do not show a call that tells a length, one that judges, one that "
+                    "names a record and one that saves")
     (copy / "snippet.c").write_text("\n".join(made) + "\n", encoding="utf-8")
     words = "gcc -std=c11 -O2 -Wall -Wextra -Werror -Iinclude -c -o snippet.o snippet.c"
     text, status = run(words.split(), copy)

@@ -121,12 +121,6 @@ void checked_rewriting(uint32_t loaded, struct rewritings *tally) {
     count(tally, answer);
 }
 
-static void demand(unsigned long times, const char *what) {
-    if (!times) {
-        complain("never %s", what);
-    }
-}
-
 void demand_rewritings(const struct rewritings *tally) {
     trial.call = "gate_rewrite";
     demand(tally->done, "wrote a line");
@@ -134,16 +128,10 @@ void demand_rewritings(const struct rewritings *tally) {
     demand(tally->too_short, "found an area too short");
     demand(tally->empty_out, "got an empty area");
     demand(tally->empty_line, "got an empty line");
-    for (unsigned question = 1; question <= LINE_QUESTIONS; question++) {
-        if (!tally->refused[question]) {
-            complain("never refused a line by %u", question);
-        }
-    }
+    demand_refusals(tally->refused, LINE_QUESTIONS);
 }
 
 void print_rewritings(const struct rewritings *tally) {
-    printf("lines written %lu, into too short an area %lu, refused by", tally->done, tally->too_short);
-    for (unsigned question = 1; question <= LINE_QUESTIONS; question++) {
-        printf(" %u: %lu%s", question, tally->refused[question], question < LINE_QUESTIONS ? "," : "\n");
-    }
+    printf("lines written %lu, into too short an area %lu, ", tally->done, tally->too_short);
+    print_refusals(tally->refused, LINE_QUESTIONS);
 }

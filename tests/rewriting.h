@@ -5,8 +5,7 @@
 
 #include <stdint.h>
 
-// The questions that are put to a line.
-enum { LINE_QUESTIONS = 6 };
+#include "refusals.h"
 
 // How often what must come came: each answer, an empty line or area, and an area of just the length that is needed.
 struct rewritings {

@@ -6,10 +6,9 @@
 #include "rooms.h"
 #include "sorter_gate.h"
 
-// What areas are filled with before a call, and the bytes that a state area has for an object.
-enum { OLD = 0xEE, RECORD_BYTES = CONTENT + 1 };
-// Where the records begin, and the least count of objects that no line can have.
-enum { RECORDS_FROM = MOST_PARTITION + 1 + 2 * MOST_OWNERS, TOO_MANY = MOST_OBJECTS + 1 };
+// What areas are filled with before a call; the least count of objects that no line can have; the least number that no
+// partition can have.
+enum { OLD = 0xEE, TOO_MANY = MOST_OBJECTS + 1, NO_PARTITION = MOST_PARTITION + 1 };
 
 // Counts of objects: the ends of both kinds of lines; those that leave many records or one to nobody; those of wide
 // lines, where the number gets a byte more too.
@@ -19,26 +18,24 @@ static const unsigned WIDE[] = {MOST_SMALL + 1, LONG_FROM - 1, LONG_FROM, MOST_O
 // Records: create partition 1, and none, which looks at the areas and changes nothing.
 static const uint8_t CREATE[] = {SORTER_GATE_CODE_CREATE_PARTITION, 1};
 
-_Static_assert(SORTER_GATE_STATE_BYTES == RECORDS_FROM + RECORD_BYTES * MOST_SMALL, "the small area's length");
-_Static_assert(SORTER_GATE_STATE_BYTES_WIDE == RECORDS_FROM + RECORD_BYTES * MOST_OBJECTS, "the wide area's length");
+_Static_assert(SORTER_GATE_STATE_BYTES == OBJECTS_FROM + RECORD_BYTES * MOST_SMALL, "the small area's length");
+_Static_assert(SORTER_GATE_STATE_BYTES_WIDE == OBJECTS_FROM + RECORD_BYTES * MOST_OBJECTS, "the wide area's length");
 
-// The pages of the areas that may be written, as the call must leave them.
+// The areas that may be written, and their pages as the call must leave them. In the others nothing can be written.
+static const enum area_name WRITTEN[] = {STATE, ANSWER, OUT};
 static uint8_t expected[AREAS][PAGE];
 
+// The state area stands a second time, for the call that only reads it.
 static void keep(void) {
-    for (enum area_name name = LINE; name < AREAS; name++) {
-        memcpy(expected[name], areas[name].own, PAGE);
+    put_area(STORED, own_start(STATE), areas[STATE].length);
+    for (size_t i = 0; i < sizeof WRITTEN / sizeof *WRITTEN; i++) {
+        memcpy(expected[WRITTEN[i]], areas[WRITTEN[i]].own, PAGE);
     }
 }
 
 static void fill(enum area_name name, size_t length, uint8_t byte) {
     areas[name].length = length;
     memset(areas[name].own, byte, PAGE);
-}
-
-static void put(enum area_name name, const uint8_t *bytes, size_t length) {
-    areas[name].length = length;
-    memcpy(own_start(name), bytes, length);
 }
 
 static uint8_t *put_head(uint8_t *at, unsigned drivers, unsigned objects, unsigned values) {
@@ -62,7 +59,7 @@ static void lend_data(unsigned objects) {
     for (unsigned object = 1; object <= objects; object++) {
         at = put_object(at, HARDCODED - 1, EXTERNAL, 0);
     }
-    put(LINE, line, (size_t)(at - line));
+    put_area(LINE, line, (size_t)(at - line));
 }
 
 // A line of transfer descriptors, with values whose two entries name the last objects.
@@ -80,7 +77,7 @@ static void lend_linked(unsigned objects) {
             *at++ = (uint8_t)value;
         }
     }
-    put(LINE, line, (size_t)(at - line));
+    put_area(LINE, line, (size_t)(at - line));
 }
 
 // The answer of a call that has a kind, where a question refuses.
@@ -94,7 +91,8 @@ static void hold(uint64_t answer, uint64_t wanted, const char *what, size_t whic
         complain("answered %llu, and not %llu, for %s %zu", (unsigned long long)answer, (unsigned long long)wanted,
                  what, which);
     }
-    for (enum area_name name = LINE; name < AREAS; name++) {
+    for (size_t i = 0; i < sizeof WRITTEN / sizeof *WRITTEN; i++) {
+        enum area_name name = WRITTEN[i];
         if (memcmp(areas[name].own, expected[name], PAGE)) {
             complain("answered %llu, and left another byte in the %s than it must, for %s %zu",
                      (unsigned long long)answer, area_text(name), what, which);
@@ -123,6 +121,11 @@ static uint32_t operate(void) {
                         lent_start(RECORD), areas[RECORD].length, lent_start(ANSWER), areas[ANSWER].length);
 }
 
+static uint64_t first_bad(void) {
+    trial.call = "gate_first_bad";
+    return gate_first_bad(lent_start(LINE), areas[LINE].length, lent_start(STORED), areas[STORED].length);
+}
+
 static uint64_t rewrite(void) {
     trial.call = "gate_rewrite";
     return gate_rewrite(lent_start(LINE), areas[LINE].length, lent_start(OUT), areas[OUT].length);
@@ -132,14 +135,16 @@ static uint8_t *expected_state(void) {
     return expected[STATE] + (own_start(STATE) - areas[STATE].own);
 }
 
-// Both calls on a state area of every length: only that which the line needs passes question 7.
+// The calls on a state area of every length: only that which the line needs passes question 7. Every record of the area
+// is broken before it is made fresh.
 static void try_state_lengths(struct rooms *tally) {
-    put(RECORD, CREATE, sizeof CREATE);
+    put_area(RECORD, CREATE, sizeof CREATE);
     fill(ANSWER, SORTER_GATE_ANSWER_BYTES, OLD);
     for (size_t length = 0; length <= PAGE; length++) {
         int right = length == state_bytes_of(own_start(LINE));
         fill(STATE, length, OLD);
         keep();
+        hold(first_bad(), right ? 1 : refused_by(SORTER_GATE_STATE_LENGTH), "a state area of length", length);
         uint32_t number = make_fresh();
         if (right) {
             follow_fresh(own_start(LINE), expected_state());
@@ -150,7 +155,7 @@ static void try_state_lengths(struct rooms *tally) {
             expected_state()[1] = 1;
         }
         hold(number, right ? SORTER_GATE_ACCEPTED : SORTER_GATE_STATE_LENGTH, "a state area of length", length);
-        tally->lengths += 2;
+        tally->lengths += 3;
     }
 }
 
@@ -163,7 +168,7 @@ static void lend_fresh(void) {
 // An answer area of every length.
 static void try_answer_lengths(struct rooms *tally) {
     lend_fresh();
-    put(RECORD, CREATE, 0);
+    put_area(RECORD, CREATE, 0);
     for (size_t length = 0; length <= PAGE; length++) {
         fill(ANSWER, length, OLD);
         keep();
@@ -186,19 +191,45 @@ static void try_counts(struct rooms *tally) {
     }
 }
 
+// The fresh state of the line, which an operation with no record looks at.
+static void lend_looked_at(void) {
+    lend_fresh();
+    put_area(RECORD, CREATE, 0);
+    fill(ANSWER, SORTER_GATE_ANSWER_BYTES, OLD);
+}
+
+// The answers of both calls that look at the state area, in which this record is the first broken one; 0 if none is.
+static void hold_first_bad(unsigned object, const char *what, size_t which) {
+    keep();
+    hold(operate(), object ? SORTER_GATE_STATE_FORM : SORTER_GATE_RECORD, what, which);
+    hold(first_bad(), object, what, which);
+}
+
 // Every byte of the records that are no object's.
 static void try_absent(struct rooms *tally) {
-    lend_fresh();
-    put(RECORD, CREATE, 0);
-    fill(ANSWER, SORTER_GATE_ANSWER_BYTES, OLD);
-    keep();
-    hold(operate(), SORTER_GATE_RECORD, "a fresh state of objects", objects_of(own_start(LINE)));
-    size_t place = RECORDS_FROM + RECORD_BYTES * (size_t)objects_of(own_start(LINE));
-    for (; place < areas[STATE].length; place++, tally->absent++) {
+    unsigned objects = objects_of(own_start(LINE));
+    lend_looked_at();
+    hold_first_bad(0, "a fresh state of objects", objects);
+    for (size_t place = record_at(objects + 1); place < areas[STATE].length; place++, tally->absent++) {
         own_start(STATE)[place] = 1;
-        keep();
-        hold(operate(), SORTER_GATE_STATE_FORM, "a byte of an absent object at place", place);
+        hold_first_bad((unsigned)((place - OBJECTS_FROM) / RECORD_BYTES) + 1, "a byte of an absent object at place",
+                       place);
         own_start(STATE)[place] = 0;
+    }
+}
+
+// Every record broken, from the last to the first, and mended again from the first to the last: what is broken behind
+// the first broken one does not count.
+static void try_broken(struct rooms *tally) {
+    unsigned room = room_of(own_start(LINE));
+    lend_looked_at();
+    for (unsigned object = room; object > 0; object--, tally->broken++) {
+        own_start(STATE)[record_at(object)] = NO_PARTITION;
+        hold_first_bad(object, "records broken from", object);
+    }
+    for (unsigned object = 1; object <= room; object++, tally->broken++) {
+        own_start(STATE)[record_at(object)] = 0;
+        hold_first_bad(object < room ? object + 1 : 0, "records mended up to", object);
     }
 }
 
@@ -209,11 +240,12 @@ static void try_cuts(struct rooms *tally, int all_calls) {
     uint64_t refused = refused_by(SORTER_GATE_NUMBER_CUT);
     memcpy(line, own_start(LINE), length);
     for (size_t left = 0; left < length; left++, tally->cuts++) {
-        put(LINE, line, left);
+        put_area(LINE, line, left);
         keep();
         hold(load_check(), SORTER_GATE_NUMBER_CUT, "a line cut after byte", left);
         hold(state_bytes(), refused, "a line cut after byte", left);
         if (all_calls) {
+            hold(first_bad(), refused, "a line cut after byte", left);
             hold(make_fresh(), SORTER_GATE_NUMBER_CUT, "a line cut after byte", left);
             hold(operate(), SORTER_GATE_NUMBER_CUT, "a line cut after byte", left);
             hold(rewrite(), refused, "a line cut after byte", left);
@@ -227,7 +259,7 @@ static void try_all_cuts(struct rooms *tally) {
         keep();
         hold(load_check(), SORTER_GATE_ACCEPTED, "a line of objects", WIDE[i]);
         lend_fresh();
-        put(RECORD, CREATE, sizeof CREATE);
+        put_area(RECORD, CREATE, sizeof CREATE);
         fill(ANSWER, SORTER_GATE_ANSWER_BYTES, OLD);
         fill(OUT, areas[LINE].length, OLD);
         try_cuts(tally, 1);
@@ -249,11 +281,16 @@ void checked_rooms(struct rooms *tally) {
         lend_data(FEWER[i]);
         try_absent(tally);
     }
+    for (size_t i = 0; i < sizeof ENDS / sizeof *ENDS; i++) {
+        lend_data(ENDS[i]);
+        try_broken(tally);
+    }
     try_counts(tally);
     try_all_cuts(tally);
 }
 
 void print_rooms(const struct rooms *tally) {
-    printf("lengths of areas %lu, counts of objects %lu, bytes of absent objects %lu, cut lines %lu\n", tally->lengths,
-           tally->counts, tally->absent, tally->cuts);
+    printf(
+        "lengths of areas %lu, counts of objects %lu, bytes of absent objects %lu, broken records %lu, cut lines %lu\n",
+        tally->lengths, tally->counts, tally->absent, tally->broken, tally->cuts);
 }

@@ -11,12 +11,8 @@ static size_t needed(unsigned objects) {
 }
 
 static void check_answer(uint64_t answer, uint32_t loaded) {
-    uint64_t kind = SORTER_GATE_KIND(answer);
     uint32_t number = (uint32_t)SORTER_GATE_NUMBER(answer);
-    if (kind > SORTER_GATE_REFUSED) {
-        complain("answered the kind %llu, which is none of its kinds", (unsigned long long)kind);
-    }
-    if (kind == SORTER_GATE_REFUSED) {
+    if (is_refused(answer)) {
         if (number != loaded || loaded == 0) {
             complain("refused by %u a line to which a load check answers %u", number, loaded);
         }
@@ -33,7 +29,7 @@ static void check_answer(uint64_t answer, uint32_t loaded) {
 
 static void count(struct state_lengths *tally, uint64_t answer) {
     uint64_t number = SORTER_GATE_NUMBER(answer);
-    if (SORTER_GATE_KIND(answer) == SORTER_GATE_REFUSED) {
+    if (is_refused(answer)) {
         tally->refused[number]++;
     } else {
         tally->small += number == SORTER_GATE_STATE_BYTES;
@@ -51,22 +47,13 @@ void checked_state_bytes(uint32_t loaded, struct state_lengths *tally) {
 
 void demand_state_bytes(const struct state_lengths *tally) {
     trial.call = "gate_state_bytes";
-    if (!tally->small || !tally->wide) {
-        complain("never told the length of a %s line", tally->small ? "wide" : "small");
-    }
-    if (!tally->empty_line) {
-        complain("never got an empty line");
-    }
-    for (unsigned question = 1; question <= LINE_QUESTIONS; question++) {
-        if (!tally->refused[question]) {
-            complain("never refused a line by %u", question);
-        }
-    }
+    demand(tally->small, "told the length of a small line");
+    demand(tally->wide, "told the length of a wide line");
+    demand(tally->empty_line, "got an empty line");
+    demand_refusals(tally->refused, LINE_QUESTIONS);
 }
 
 void print_state_bytes(const struct state_lengths *tally) {
-    printf("lengths told of small lines %lu, of wide lines %lu, refused by", tally->small, tally->wide);
-    for (unsigned question = 1; question <= LINE_QUESTIONS; question++) {
-        printf(" %u: %lu%s", question, tally->refused[question], question < LINE_QUESTIONS ? "," : "\n");
-    }
+    printf("lengths told of small lines %lu, of wide lines %lu, ", tally->small, tally->wide);
+    print_refusals(tally->refused, LINE_QUESTIONS);
 }

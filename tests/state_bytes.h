@@ -5,7 +5,7 @@
 
 #include <stdint.h>
 
-#include "rewriting.h"
+#include "refusals.h"
 
 // How often what must come came: each length, each refusal, and an empty line.
 struct state_lengths {

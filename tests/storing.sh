@@ -1,7 +1,8 @@
 #!/usr/bin/env bash
 # The example that stores a state area, with lines of both kinds: ended after each of its system calls, with calls that
-# fail, and with files that are damaged, cut, another line's or stored before (tests/storing.c). Then the same over
-# copies of the example with a fault each, every one of which must be told.
+# fail, and with files that are damaged, cut, another line's or stored before (tests/storing.c); and what it tells of a
+# damaged area (tests/damaged.py). Then the same over copies of the example with a fault each, every one of which must
+# be told.
 set -euo pipefail
 cd "$(dirname "$0")/.."
 out=$(mktemp -d)
@@ -17,26 +18,50 @@ build() {
     mkdir -p "$out/folder"
 }
 
+# build_example EXAMPLE: the example itself
+build_example() {
+    gcc -std=c11 -O1 -w -Iinclude -o "$out/restore" "$1" target/staticlib/libgate.a
+}
+
 build plain "$PWD/$example" -O2 -Wall -Wextra -Werror -g -fsanitize=address,undefined
 "$out/plain" "$out/folder"
+build_example "$example"
+python3 tests/damaged.py "$out/restore"
 
 told=0
-# must_tell FAULT PART MESSAGE SED..: the fault by its name, the part that must end with the message, the edit
-must_tell() {
-    sed "${@:4}" "$example" > "$out/faulty.c"
+# put_fault FAULT SED..: the fault by its name, the edit that puts it into a copy of the example
+put_fault() {
+    sed "${@:2}" "$example" > "$out/faulty.c"
     if cmp -s "$example" "$out/faulty.c"; then
         echo "storing: the example has no place for the fault '$1'" >&2
         exit 1
     fi
-    build faulty "$out/faulty.c" -w
+}
+
+# must_end FAULT MESSAGE COMMAND..: the command, over the copy, ends with the message
+must_end() {
     local status=0
-    "$out/faulty" "$out/folder" "$2" > /dev/null 2> "$out/told" || status=$?
-    if [ $status != 1 ] || ! grep -qE "^storing: $3" "$out/told"; then
-        echo "storing: with the fault '$1' the part '$2' ends with $status, and not with '$3':" >&2
+    "${@:3}" > /dev/null 2> "$out/told" || status=$?
+    if [ $status != 1 ] || ! grep -qE "^$2" "$out/told"; then
+        echo "storing: with the fault '$1' it ends with $status, and not with '$2':" >&2
         cat "$out/told" >&2
         exit 1
     fi
     told=$((told + 1))
+}
+
+# must_tell FAULT PART MESSAGE SED..: the part that must end with the message
+must_tell() {
+    put_fault "$1" "${@:4}"
+    build faulty "$out/faulty.c" -w
+    must_end "$1" "storing: $3" "$out/faulty" "$out/folder" "$2"
+}
+
+# must_name FAULT MESSAGE SED..: the message with which the trial of damaged areas must end
+must_name() {
+    put_fault "$1" "${@:3}"
+    build_example "$out/faulty.c"
+    must_end "$1" "damaged: $2" python3 tests/damaged.py "$out/restore"
 }
 
 neither='after .* the area is neither the old nor the new one'
@@ -84,11 +109,25 @@ must_tell "only a part of the area restored" lines 'the area is not restored' \
     's/memcpy(state, file + STATE_AT, state_len)/memcpy(state, file + STATE_AT, SORTER_GATE_STATE_BYTES)/'
 must_tell "another mark" before 'an area that was stored before is not restored' 's/"SGSTATE1"/"SGSTATE2"/'
 must_tell "a line file that is not there" starts 'a line file that is refused' \
-    's/if (name && !read_line(name))/if (name \&\& read_line(name), 0)/'
+    's/if (name && \(read_file(.*)\) != WHOLE)/if (name \&\& \1, 0)/'
 must_tell "a fresh state at each start" starts 'two starts do not leave' 's/if (found == ABSENT)/if (1)/'
 must_tell "line not checked" lines "another line's area" 's/return holds(file + LINE_AT.*/return WHOLE;/'
 must_tell "another digest" digest 'the digest of' 's/0x100000001b3u/0x100000001b5u/'
 must_tell "a name below a file" unreadable 'a name below' 's/errno == ENOENT ? ABSENT : UNREADABLE/ABSENT/'
 must_tell "a read that failed" unreadable 'a folder' 's/failed ? UNREADABLE : //'
 must_tell "nothing stored" unreadable 'that nothing is stored' 's/errno == ENOENT ? ABSENT : UNREADABLE/UNREADABLE/'
+named='.*it prints .*the first broken record is that of object'
+must_name "records counted from 0" "$named 0" 's/that of object %u\\n", number/&- 1/'
+must_name "the place not told" '.*, checksum made to fit: it prints' 's/n == SORTER_GATE_STATE_FORM/0/'
+must_name "the place told of a good look alone" '.*, checksum made to fit: it prints' \
+    's/n == SORTER_GATE_STATE_FORM/n == SORTER_GATE_RECORD/'
+must_name "the place not told of a damaged file" '.*, checksum left: it prints' 's/tell_damage(name);/;/'
+must_name "another part of the file looked at" "$named" 's/tell_place(file + STATE_AT,/tell_place(file,/'
+must_name "the small length for all" '97 objects, .*no record can be named: refused by question 7' \
+    's/line_len, damaged, state_len/line_len, damaged, SORTER_GATE_STATE_BYTES/'
+must_name "a damaged file of another line looked at" '.*, checksum left: it prints .* and not \[.[^,]*\] and 1' \
+    's/holds(file + LINE_AT, digest(line, line_len))) {/1) {/'
+must_name "a damaged file used" '.*, checksum left: it prints' 's/found != ABSENT && found != WHOLE/0/'
+must_name "an area used that 9 refuses" '.*, checksum made to fit: it prints' \
+    's/return n == SORTER_GATE_RECORD;/return 1;/'
 echo "storing: $told faults put into the example, each told by the test"

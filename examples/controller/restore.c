@@ -1,5 +1,6 @@
 // Keeps a state area over a restart. Each run is one start of a controller: it restores the area of the last run, or
-// makes a fresh one if none is stored, looks at it, creates the next partition, and stores the area.
+// makes a fresh one if none is stored, looks at it, creates the next partition, and stores the area. An area that is
+// damaged is not used; the technician is told which object's record is broken.
 //   restore FILE [LINE]   prints each step; ends with status 1 if one does not go as it should. The line is that of the
 //                         line file LINE, or a small one that stands here.
 // A controller takes over `store` and `restore`, which are for POSIX systems. docs/CONTROLLER.md says what they are
@@ -126,18 +127,27 @@ static enum stored judge(const uint8_t *file, size_t count, const uint8_t *line,
     return holds(file + LINE_AT, digest(line, line_len)) ? WHOLE : OTHER_LINE;
 }
 
-// Puts the stored area into `state` if the file is whole and of this line; otherwise `state` is as it was. `state` has
-// the length that the line needs, so that an area of the other length shows.
-static enum stored restore(const char *name, const uint8_t *line, size_t line_len, uint8_t *state, size_t state_len) {
-    uint8_t file[MOST_BYTES + 1]; // one byte more, so that a longer file shows
+// As many bytes of a file as there is room for, and how many they are.
+static enum stored read_file(const char *name, uint8_t *to, size_t room, size_t *count) {
     FILE *f = fopen(name, "rb");
     if (!f) {
         return errno == ENOENT ? ABSENT : UNREADABLE;
     }
-    size_t count = fread(file, 1, sizeof file, f);
+    *count = fread(to, 1, room, f);
     int failed = ferror(f);
     fclose(f);
-    enum stored found = failed ? UNREADABLE : judge(file, count, line, line_len, state_len);
+    return failed ? UNREADABLE : WHOLE;
+}
+
+// Puts the stored area into `state` if the file is whole and of this line; otherwise `state` is as it was. `state` has
+// the length that the line needs, so that an area of the other length shows.
+static enum stored restore(const char *name, const uint8_t *line, size_t line_len, uint8_t *state, size_t state_len) {
+    uint8_t file[MOST_BYTES + 1]; // one byte more, so that a longer file shows
+    size_t count = 0;
+    enum stored found = read_file(name, file, sizeof file, &count);
+    if (found == WHOLE) {
+        found = judge(file, count, line, line_len, state_len);
+    }
     if (found == WHOLE) {
         memcpy(state, file + STATE_AT, state_len);
     }
@@ -152,20 +162,11 @@ static uint8_t line[SORTER_GATE_LONGEST_LINE + 1], state[SORTER_GATE_STATE_BYTES
 static uint8_t answer[SORTER_GATE_ANSWER_BYTES];
 static size_t line_len, state_len;
 
-static int read_line(const char *name) {
-    FILE *f = fopen(name, "rb");
-    if (!f) {
-        return 0;
-    }
-    line_len = fread(line, 1, sizeof line, f);
-    return fclose(f) == 0;
-}
-
 // The line of this run, and how long its state area is, which the library tells of a line that it accepts.
 static int begin_line(const char *name) {
     memcpy(line, LINE, sizeof LINE);
     line_len = sizeof LINE;
-    if (name && !read_line(name)) {
+    if (name && read_file(name, line, sizeof line, &line_len) != WHOLE) {
         return 0;
     }
     uint64_t needed = gate_state_bytes(line, line_len);
@@ -179,18 +180,56 @@ static uint32_t call(const uint8_t *record, size_t length, const char *what) {
     return n;
 }
 
-// The area of the last run, or a fresh one. An empty record changes nothing: 10 says that line file and areas are in
-// order, less says what is not.
-static int begin(const char *name) {
+// For the technician: which object's record breaks a rule first in an area that is not used, or, if none does, what
+// that means. An object that the line does not have is named if its record is not 0.
+static void tell_place(const uint8_t *damaged, const char *none) {
+    uint64_t found = gate_first_bad(line, line_len, damaged, state_len);
+    unsigned number = (unsigned)SORTER_GATE_NUMBER(found);
+    if (SORTER_GATE_KIND(found) != SORTER_GATE_DONE) {
+        printf("    no record can be named: refused by question %u\n", number);
+    } else if (number > 0) {
+        printf("    the first broken record is that of object %u\n", number);
+    } else {
+        printf("    no record is broken: %s\n", none);
+    }
+}
+
+// A file whose checksum does not fit may be damaged anywhere, in bytes too that look well. Its area is only looked at,
+// where it was read, and is never used; if the file does not name this line, it is not even looked at.
+static void tell_damage(const char *name) {
+    uint8_t file[MOST_BYTES];
+    size_t count = 0;
+    if (read_file(name, file, STATE_AT + state_len, &count) == WHOLE && count == STATE_AT + state_len &&
+        holds(file + LINE_AT, digest(line, line_len))) {
+        tell_place(file + STATE_AT, "the damage does not show there");
+    }
+}
+
+// Whether the area is in order. An empty record changes nothing: 10 says that line file and areas are in order, less
+// says what is not; 9 says that the area is damaged, whatever its file's checksum says, as if another program stored
+// it.
+static int look(void) {
     static const uint8_t nothing[1] = {0};
+    uint32_t n = call(nothing, 0, "look at the area");
+    if (n == SORTER_GATE_STATE_FORM) {
+        tell_place(state, "the fault is in the bytes of partitions, drivers or cards");
+    }
+    return n == SORTER_GATE_RECORD;
+}
+
+// The area of the last run, or a fresh one.
+static int begin(const char *name) {
     enum stored found = restore(name, line, line_len, state, state_len);
     printf("    %s: %s\n", name, SAYS[found]);
     if (found == ABSENT) {
         printf(" %u  a fresh state\n", gate_fresh(line, line_len, state, state_len));
-    } else if (found != WHOLE) {
+    } else if (found == DAMAGED) {
+        tell_damage(name);
+    }
+    if (found != ABSENT && found != WHOLE) {
         return 0; // what is on the machine is known to the operator alone
     }
-    return call(nothing, 0, "look at the area") == SORTER_GATE_RECORD;
+    return look();
 }
 
 // The first partition that was never used before.

@@ -1,13 +1,14 @@
 #!/usr/bin/env bash
-# Builds the library and the controllers that need no file of their own, and runs them: once as they are, once under
-# AddressSanitizer. The line that is saved must be the one that was loaded, and a refused one must not be saved.
+# Builds the library and the controllers, and runs them: once as they are, once under AddressSanitizer. The line that is
+# saved must be the one that was loaded, and a refused one must not be saved. Of damaged areas the broken record must be
+# told (tests/damaged.py); tests/storing.sh tries that again, with all else about storing and restoring.
 set -euo pipefail
 cd "$(dirname "$0")/../.."
 out=$(mktemp -d)
 trap 'rm -rf "$out"' EXIT
 make -s lib
 flags="-std=c11 -O2 -Wall -Wextra -Werror -Iinclude"
-for name in main save; do
+for name in main save restore; do
     gcc $flags -o "$out/$name" "examples/controller/$name.c" target/staticlib/libgate.a
     gcc $flags -g -fsanitize=address,undefined -o "$out/$name-checked" "examples/controller/$name.c" \
         target/staticlib/libgate.a
@@ -26,3 +27,4 @@ for name in save save-checked; do
     fi
 done
 sed "s|$out/||" "$out/rows"
+python3 tests/damaged.py "$out/restore-checked"

@@ -62,6 +62,7 @@ unsafe extern "C" {
         answer: *mut u8,
         answer_len: usize,
     ) -> u32;
+    fn gate_first_bad(line: *const u8, line_len: usize, state: *const u8, state_len: usize) -> u64;
     fn gate_rewrite(line: *const u8, line_len: usize, out: *mut u8, out_len: usize) -> u64;
 }
 
@@ -90,7 +91,7 @@ pub fn load_check(line: &[u8]) -> Result<(), Refusal> {
 pub fn state_bytes(line: &[u8]) -> Result<usize, Refusal> {
     // SAFETY: as in `load_check`.
     let answer = unsafe { gate_state_bytes(line.as_ptr(), line.len()) };
-    rewriting::length_told(answer)
+    rewriting::number_told(answer)
 }
 
 /// Makes the fresh state of a line: questions 1 to 6, then 7, whether `state` has just the length that `state_bytes`
@@ -124,6 +125,34 @@ pub fn operate(line: &[u8], state: &mut [u8], record: &[u8], answer: &mut [u8]) 
         )
     };
     Refusal::check(number)
+}
+
+/// Names the first object whose record in a state area breaks a rule of question 9, for whoever looks at a damaged one.
+/// Objects count from 1 on; one that the line does not have is named too, if its record is not 0. Line file and length
+/// of the area are refused by questions 1 to 7. Nothing is changed.
+///
+/// `None` is that no record breaks a rule, and not that the state is well formed: where `operate` is refused by 9 all
+/// the same, the fault is in the bytes of partitions, drivers or cards. An answer of a kind that this package does not
+/// know is a `Refusal`, as of `state_bytes`.
+///
+/// ```
+/// use sorter_gate::{ANSWER_BYTES, STATE_BYTES, first_bad, fresh, operate};
+///
+/// // A line with two objects, both external data.
+/// let line = [1, 0, 0, 2, 0, 3, 0, 0, 3, 0, 0];
+/// let (mut state, mut answer) = ([0; STATE_BYTES], [0; ANSWER_BYTES]);
+/// fresh(&line, &mut state)?;
+/// assert_eq!(first_bad(&line, &state)?, None);
+/// // The partition of object 2 stands behind 64 + 16 + 16 bytes and the 17 of object 1. Nobody created partition 5.
+/// state[64 + 16 + 16 + 17] = 5;
+/// assert_eq!(first_bad(&line, &state)?, Some(2));
+/// assert_eq!(operate(&line, &mut state, &[], &mut answer).unwrap_err().number(), 9);
+/// # Ok::<(), sorter_gate::Refusal>(())
+/// ```
+pub fn first_bad(line: &[u8], state: &[u8]) -> Result<Option<usize>, Refusal> {
+    // SAFETY: as in `load_check`, for two slices: the library reads both, and writes neither.
+    let answer = unsafe { gate_first_bad(line.as_ptr(), line.len(), state.as_ptr(), state.len()) };
+    rewriting::number_told(answer).map(|place| (place > 0).then_some(place))
 }
 
 /// Loads a line file and writes the line that was loaded into `out`; an accepted file comes out byte for byte. Returns

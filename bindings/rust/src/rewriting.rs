@@ -24,7 +24,7 @@ pub enum RewriteError {
 }
 
 impl RewriteError {
-    /// The length that an answer tells, or why there is none: every answer that is not known is an error too.
+    /// The number that an answer tells, or why there is none: every answer that is not known is an error too.
     pub(crate) const fn check(answer: u64) -> Result<usize, RewriteError> {
         let number = (answer % KIND_UNIT) as u32;
         match (answer / KIND_UNIT, Refusal::new(number)) {
@@ -36,11 +36,11 @@ impl RewriteError {
     }
 }
 
-/// The length of a state area that an answer tells, or the question that refused the line. What cannot be told apart,
-/// an answer of a kind that is not known, is refused by a question that is not known either.
-pub(crate) const fn length_told(answer: u64) -> Result<usize, Refusal> {
+/// What an answer tells, the length of a state area or the place of a record, or the question that refused the call.
+/// What cannot be told apart, an answer of a kind that is not known, is refused by a question that is not known either.
+pub(crate) const fn number_told(answer: u64) -> Result<usize, Refusal> {
     match RewriteError::check(answer) {
-        Ok(length) => Ok(length),
+        Ok(number) => Ok(number),
         Err(RewriteError::Refused(refusal)) => Err(refusal),
         Err(RewriteError::Short(_) | RewriteError::Unknown(_)) => Err(Refusal::UNKNOWN),
     }
@@ -62,7 +62,7 @@ impl Error for RewriteError {}
 
 #[cfg(test)]
 mod tests {
-    use super::{DONE, KIND_UNIT, REFUSED, RewriteError, SHORT, length_told};
+    use super::{DONE, KIND_UNIT, REFUSED, RewriteError, SHORT, number_told};
     use crate::{Refusal, STATE_BYTES_WIDE};
 
     #[test]
@@ -80,18 +80,18 @@ mod tests {
     fn an_answer_of_a_later_version_is_an_error() {
         for answer in [REFUSED * KIND_UNIT, (SHORT + 1) * KIND_UNIT, (SHORT + 1) * KIND_UNIT + 7, u64::MAX] {
             assert_eq!(RewriteError::check(answer), Err(RewriteError::Unknown(answer)));
-            assert_eq!(length_told(answer), Err(Refusal::UNKNOWN));
+            assert_eq!(number_told(answer), Err(Refusal::UNKNOWN));
         }
     }
 
-    /// No state area is too short to be told its length: that kind is `gate_rewrite`'s alone.
+    /// Nothing is too short to be told a length or a place: that kind is `gate_rewrite`'s alone.
     #[test]
-    fn a_length_is_told_or_the_line_is_refused() {
+    fn a_number_is_told_or_the_call_is_refused() {
         for number in [1, 6, STATE_BYTES_WIDE as u64, KIND_UNIT - 1] {
             let refusal = Refusal::new(number as u32).expect("only 0 is no refusal");
-            assert_eq!(length_told(DONE * KIND_UNIT + number), Ok(number as usize));
-            assert_eq!(length_told(REFUSED * KIND_UNIT + number), Err(refusal));
-            assert_eq!(length_told(SHORT * KIND_UNIT + number), Err(Refusal::UNKNOWN));
+            assert_eq!(number_told(DONE * KIND_UNIT + number), Ok(number as usize));
+            assert_eq!(number_told(REFUSED * KIND_UNIT + number), Err(refusal));
+            assert_eq!(number_told(SHORT * KIND_UNIT + number), Err(Refusal::UNKNOWN));
         }
     }
 }

@@ -2,19 +2,12 @@
 
 mod common;
 
-use common::{FULL, number};
+use common::{FULL, fresh_of, number};
 use sorter_gate::{ANSWER_BYTES, LONGEST_LINE, LONGEST_RECORD, code, fresh, load_check, operate, state_bytes};
 
 /// Every count at its limit; what is not hard-wired is external data.
 fn full_line() -> Vec<u8> {
     common::full_line(3, 1, 0)
-}
-
-/// A fresh state of a line, of the length that the line needs.
-fn fresh_of(line: &[u8]) -> Vec<u8> {
-    let mut state = vec![0; state_bytes(line).expect("the line is accepted")];
-    fresh(line, &mut state).expect("the line is accepted");
-    state
 }
 
 /// Carries records out on a fresh state of the full line, and gives the number of the last; the others are accepted.

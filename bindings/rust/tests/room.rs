@@ -2,35 +2,10 @@
 
 mod common;
 
-use common::{FULL, data_line, number};
+use common::{ENDS, FULL, LENGTHS, OLD, SMALL, WIDE, data_line, example, looked_at, number, question, record_at};
 use sorter_gate::{
     ANSWER_BYTES, Refusal, STATE_BYTES, STATE_BYTES_WIDE, code, fresh, load_check, operate, state_bytes,
 };
-
-/// The last line that has the shorter area, and the first that has the longer.
-const SMALL: u8 = 96;
-const WIDE: u8 = SMALL + 1;
-
-/// What the areas hold before a call.
-const OLD: u8 = 0xEE;
-
-/// Where the record of an object begins in a state area.
-fn record_at(object: u8) -> usize {
-    64 + 16 + 16 + 17 * (usize::from(object) - 1)
-}
-
-fn question(result: Result<(), Refusal>) -> u32 {
-    result.err().map_or(0, Refusal::number)
-}
-
-/// The number of an operation on an area that is lent as it is, with what must not change if it is refused.
-fn looked_at(line: &[u8], state: &mut [u8], record: &[u8]) -> u32 {
-    let (before, mut answer) = (state.to_vec(), [OLD; ANSWER_BYTES]);
-    let number = question(operate(line, state, record, &mut answer));
-    assert!(number == 0 || state == before, "refused by {number}, and changed");
-    assert_eq!(answer, [OLD; ANSWER_BYTES]);
-    number
-}
 
 #[test]
 fn a_line_has_up_to_192_objects() {
@@ -59,9 +34,7 @@ fn the_objects_alone_decide_the_length() {
 #[test]
 fn a_refused_line_has_no_length_but_its_question() {
     for expected in 1..=6 {
-        let path = format!("{}/../../examples/questions/{expected:02}/line.bin", env!("CARGO_MANIFEST_DIR"));
-        let line = std::fs::read(path).expect("an example has a line file");
-        assert_eq!(state_bytes(&line).map_err(Refusal::number), Err(expected));
+        assert_eq!(state_bytes(&example(expected, "line")).map_err(Refusal::number), Err(expected));
     }
     assert_eq!(state_bytes(&[]).map_err(Refusal::number), Err(1));
     assert_eq!(state_bytes(&data_line(FULL + 1)).map_err(Refusal::number), Err(3));
@@ -70,11 +43,9 @@ fn a_refused_line_has_no_length_but_its_question() {
 /// Both calls on areas of both lengths and about them: only the length that the line needs passes question 7.
 #[test]
 fn each_line_takes_its_own_length_alone() {
-    let lengths = [STATE_BYTES, STATE_BYTES_WIDE].map(|right| [right - 1, right, right + 1]).concat();
-    for (objects, right) in [(0, STATE_BYTES), (SMALL, STATE_BYTES), (WIDE, STATE_BYTES_WIDE), (FULL, STATE_BYTES_WIDE)]
-    {
+    for (objects, right) in ENDS {
         let line = data_line(objects);
-        for &length in &lengths {
+        for length in LENGTHS {
             let mut state = vec![OLD; length];
             let expected = if length == right { 0 } else { 7 };
             assert_eq!(question(fresh(&line, &mut state)), expected, "fresh: {objects} objects, {length} bytes");

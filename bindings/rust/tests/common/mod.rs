@@ -1,8 +1,56 @@
-//! Lines for the tests, up to the longest.
+//! Lines for the tests, up to the longest, and calls on areas.
 #![allow(dead_code)] // no test uses all of it
+
+use sorter_gate::{ANSWER_BYTES, Refusal, STATE_BYTES, STATE_BYTES_WIDE, fresh, operate, state_bytes};
 
 /// The objects that a line has at most; from 128 on a number has two bytes.
 pub const FULL: u8 = 192;
+
+/// The last line that has the shorter area, and the first that has the longer.
+pub const SMALL: u8 = 96;
+pub const WIDE: u8 = SMALL + 1;
+
+/// Each length of a state area with those about it, and none.
+pub const LENGTHS: [usize; 7] =
+    [0, STATE_BYTES - 1, STATE_BYTES, STATE_BYTES + 1, STATE_BYTES_WIDE - 1, STATE_BYTES_WIDE, STATE_BYTES_WIDE + 1];
+
+/// Lines at the ends of both sorts, by their objects, with the length that each needs.
+pub const ENDS: [(u8, usize); 4] =
+    [(0, STATE_BYTES), (SMALL, STATE_BYTES), (WIDE, STATE_BYTES_WIDE), (FULL, STATE_BYTES_WIDE)];
+
+/// What the areas hold before a call.
+pub const OLD: u8 = 0xEE;
+
+/// Where the record of an object begins in a state area.
+pub fn record_at(object: u8) -> usize {
+    64 + 16 + 16 + 17 * (usize::from(object) - 1)
+}
+
+pub fn question(result: Result<(), Refusal>) -> u32 {
+    result.err().map_or(0, Refusal::number)
+}
+
+/// The number of an operation on an area that is lent as it is, with what must not change if it is refused.
+pub fn looked_at(line: &[u8], state: &mut [u8], record: &[u8]) -> u32 {
+    let (before, mut answer) = (state.to_vec(), [OLD; ANSWER_BYTES]);
+    let number = question(operate(line, state, record, &mut answer));
+    assert!(number == 0 || state == before, "refused by {number}, and changed");
+    assert_eq!(answer, [OLD; ANSWER_BYTES]);
+    number
+}
+
+/// A fresh state of a line, of the length that the line needs.
+pub fn fresh_of(line: &[u8]) -> Vec<u8> {
+    let mut state = vec![0; state_bytes(line).expect("the line is accepted")];
+    fresh(line, &mut state).expect("the line is accepted");
+    state
+}
+
+/// A file of a question's example.
+pub fn example(question: u32, name: &str) -> Vec<u8> {
+    let path = format!("{}/../../examples/questions/{question:02}/{name}.bin", env!("CARGO_MANIFEST_DIR"));
+    std::fs::read(path).expect("the example has the file")
+}
 
 /// A number in its shortest form.
 pub fn number(n: u8) -> Vec<u8> {
