@@ -1,4 +1,4 @@
--- A call by its ways out: the file is refused, a question of 7 to 20 is answered with no, or the operation is carried
+-- A call by its ways out: the file is refused, a question of 7 to 21 is answered with no, or the operation is carried
 -- out. Assumes nothing.
 use Prim.Native.Nat.{ℕ, zero, suc, _≤_, _<_}
 use mathlib.Core.Path.{_≡_, refl, sym, ap, _∙_}
@@ -12,7 +12,7 @@ use Rattle.model.specs.ConfigFile.{load}
 use Rattle.model.specs.State.{State, records, areaLength, view, layout, wellFormed}
 use Rattle.model.specs.Operation.{familyOf, actorOf, readOperation}
 use Rattle.model.specs.Effect.{answerBytes, answered}
-use Rattle.model.specs.Questions.{q11, q12, q13, q18, q19, q20, ask}
+use Rattle.model.specs.Questions.{q11, q12, q13, q18, q19, q20, q21, ask}
 use Rattle.model.specs.Gate.{orElse, applied, judged, verdict, outcome, operate}
 use Rattle.model.specs.Programs.{Operated}
 use Rattle.model.specs.declared.Family.{Family}
@@ -24,7 +24,7 @@ use Rattle.model.proofs.Facts.{asked}
 use Rattle.questions.specs.Items.{namesNo, placesNo, firstNo}
 use Rattle.questions.proofs.Judging.{join, judge-first}
 use Rattle.searches.specs.Ready.{Complete, Asked}
-use Rattle.searches.specs.Asking.{stores, leaves}
+use Rattle.searches.specs.Asking.{stores, leaves, enters}
 use Rattle.gate.specs.Carried.{carried}
 use Rattle.searches.proofs.Asking
 
@@ -52,7 +52,7 @@ module _ (file area bytes answer : List ℕ) {l : Loaded} (e : l ≡ load file) 
   unfolding operate carried
   file-accepted z k h = rw (← e, z, ← k) (h .0, h .1 .0, h .1 .1)
 
--- questions 7 to 20
+-- questions 7 to 21
 module _ (config : Config) (room : ℕ) (area bytes answer : List ℕ) where
   refused : {n : ℕ} → (n ≡ 0 → ⊥) → verdict room config (readOperation bytes) area answer ≡ n
       → Carried room config area bytes answer n area answer
@@ -104,15 +104,18 @@ module _ (config : Config) (room : ℕ) (area bytes answer : List ℕ) where
             unfolding carried
             done h x y = rw (last ∙ h, ← o₁₀) (refl, (x, y))
 
-neither : (x y : Bool) → (x || y) ≡ false → (x ≡ false) × (y ≡ false)
-neither true y h = absurd (true≢false h)
-neither false y h = (refl, h)
+neither : (x y z : Bool) → (x || y || z) ≡ false → (x ≡ false) × (y ≡ false) × (z ≡ false)
+neither true y z h = absurd (true≢false h)
+neither false true z h = absurd (true≢false h)
+neither false false z h = (refl, refl, h)
 
--- questions 11 to 20
+-- questions 11 to 21
 module _ (config : Config) (b : State) (op : Operation) {q : ℕ}
     (e : q ≡ firstNo config b op (familyOf (op .code)) (actorOf (op .code)) 0) where
   rest : Family → Actor → ℕ
-  rest f a = ask 18 (q18 config b op f a) (ask 19 (q19 config b op f a) (ask 20 (q20 config b op f a) 0))
+  rest f a =
+      ask 18 (q18 config b op f a) (ask 19 (q19 config b op f a) (ask 20 (q20 config b op f a)
+      (ask 21 (q21 config b op f a) 0)))
 
   joined : judged config op b ≡ orElse q (rest (familyOf (op .code)) (actorOf (op .code)))
   unfolding rest
@@ -145,15 +148,16 @@ module _ (config : Config) (b : State) (op : Operation) {q : ℕ}
         let h₃ = asked 12 (q13 config op f) _ (h₂ .1) in
         record { complete = c; family = k; actor = l; p11 = h₁ .0; p13 = h₃ .0 }
 
-    -- a code that 18 to 20 are not about
-    pub none-asked : {t : Bool} → t ≡ (stores f || leaves f) → t ≡ false → 0 ≡ judged config op b
+    -- a code that 18 to 21 are not about
+    pub none-asked : {t : Bool} → t ≡ (stores f || leaves f || enters f a) → t ≡ false → 0 ≡ judged config op b
     unfolding rest
     none-asked e h =
-        let n = neither (stores f) (leaves f) (sym e ∙ h) in
+        let n = neither (stores f) (leaves f) (enters f a) (sym e ∙ h) in
         sym (by-rest ∙ rw (
           ← Asking.q18-free config b op f a (n .0),
           ← Asking.q19-free config b op f a (n .0),
           ← Asking.q20-free config b op f a (n .1),
+          ← Asking.q21-free config b op f a (n .2),
         ))
 
     module _ {t₁₈ : Bool} (e₁₈ : t₁₈ ≡ q18 config b op f a) where
@@ -171,6 +175,11 @@ module _ (config : Config) (b : State) (op : Operation) {q : ℕ}
           unfolding rest
           no-20 h = sym (by-rest ∙ rw (← e₁₈, y₁₈, ← e₁₉, y₁₉, ← e₂₀, h))
 
-          pub all-yes : t₂₀ ≡ true → 0 ≡ judged config op b
-          unfolding rest
-          all-yes h = sym (by-rest ∙ rw (← e₁₈, y₁₈, ← e₁₉, y₁₉, ← e₂₀, h))
+          module _ (y₂₀ : t₂₀ ≡ true) {t₂₁ : Bool} (e₂₁ : t₂₁ ≡ q21 config b op f a) where
+            pub no-21 : t₂₁ ≡ false → 21 ≡ judged config op b
+            unfolding rest
+            no-21 h = sym (by-rest ∙ rw (← e₁₈, y₁₈, ← e₁₉, y₁₉, ← e₂₀, y₂₀, ← e₂₁, h))
+
+            pub all-yes : t₂₁ ≡ true → 0 ≡ judged config op b
+            unfolding rest
+            all-yes h = sym (by-rest ∙ rw (← e₁₈, y₁₈, ← e₁₉, y₁₉, ← e₂₀, y₂₀, ← e₂₁, h))

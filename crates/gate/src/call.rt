@@ -1,4 +1,4 @@
-// One operation call whose configuration was accepted: questions 7 to 20, and then the effect. `room` is how many
+// One operation call whose configuration was accepted: questions 7 to 21, and then the effect. `room` is how many
 // object records the state area has.
 ghost use mathlib.Core.Path.{_≡_};
 ghost use Prim.Native.Nat.{_≤_};
@@ -7,16 +7,19 @@ ghost use Rattle.model.specs.Config.{mostObjects};
 ghost use Rattle.model.specs.State.{view};
 ghost use Rattle.model.specs.Gate.{judged};
 ghost use Rattle.searches.specs.Ready.{Accepted, Ready, Complete};
-ghost use Rattle.searches.specs.Asking.{stores, leaves};
+ghost use Rattle.searches.specs.Asking.{stores, leaves, enters};
 ghost use Rattle.gate.specs.Carried.{carried};
 use effect::ANSWER_BYTES;
 use effect::carry_out;
+use model::Actor;
 use model::Config;
 use model::Family;
 use model::Operation;
 use operation::codes::actor_of;
 use operation::codes::family_of;
 use operation::read_operation;
+use searches::entering::enters_confined;
+use searches::entering::is_entering;
 use searches::leaving::is_leaving;
 use searches::leaving::stays_unnamed;
 use searches::next::stays_confined;
@@ -25,14 +28,14 @@ use searches::transfers::is_storing;
 use state::formed::is_formed;
 use state::look::right_length;
 
-// Questions 18 to 20 are about writes, copies and deactivations.
-fn is_searched(f: Family) -> bool
-    ensures { λ r. ⌜ r ≡ (stores f || leaves f) ⌝ }
+// Questions 18 to 21 are about writes, copies, deactivations and devices that are brought in.
+fn is_searched(f: Family, a: Actor) -> bool
+    ensures { λ r. ⌜ r ≡ (stores f || leaves f || enters f a) ⌝ }
 {
-    is_storing(f) | is_leaving(f)
+    is_storing(f) | is_leaving(f) | is_entering(f, a)
 }
 
-// The number of the first of the questions 11 to 20 that is answered with no, or 0.
+// The number of the first of the questions 11 to 21 that is answered with no, or 0.
 fn judge_all(config: Config, area: &[u8], room: usize, op: Operation) -> u8
     requires { ⌜ Ready config room (now area) ⌝ }
     requires { ⌜ Complete op ⌝ }
@@ -51,7 +54,7 @@ fn judge_all(config: Config, area: &[u8], room: usize, op: Operation) -> u8
     }
     let f = family_of(op.code);
     let a = actor_of(op.code);
-    if !is_searched(f) {
+    if !is_searched(f, a) {
         return 0;
     }
     if !are_described(config, area, room, op, f, a) {
@@ -60,10 +63,13 @@ fn judge_all(config: Config, area: &[u8], room: usize, op: Operation) -> u8
     if !stays_confined(config, area, room, op, f, a) {
         return 19;
     }
-    if stays_unnamed(config, area, room, op, f, a) {
+    if !stays_unnamed(config, area, room, op, f, a) {
+        return 20;
+    }
+    if enters_confined(config, area, room, op, f, a) {
         0
     } else {
-        20
+        21
     }
 }
 

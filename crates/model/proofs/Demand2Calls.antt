@@ -1,5 +1,5 @@
--- Demand 2 on whole operation calls: accepted exactly if each of the twenty questions is a yes; with 1 to 18 a yes,
--- refused by 19 or 20 exactly where the rules of the closure give an entry for it.
+-- Demand 2 on whole operation calls: accepted exactly if each of the twenty-one questions is a yes; with 1 to 18 a
+-- yes, refused by 19, 20 or 21 exactly where the rules of the closure give an entry for it.
 use Prim.Native.Nat.{ℕ, zero, suc}
 use mathlib.Core.Path.{_≡_, refl, sym, ap, _∙_, subst}
 use mathlib.Core.Logic.{_↔_, inl, inr}
@@ -31,24 +31,27 @@ use Rattle.model.specs.Demand2.{
   Leaving,
   SomeNames,
   Refusal20,
+  Entering,
+  Refusal21,
   Demand2,
 }
 use Rattle.model.specs.declared.Family.{Family}
-use Rattle.model.specs.declared.Family.the-variants.{Write, Copy, Deactivate}
+use Rattle.model.specs.declared.Family.the-variants.{Write, Copy, Activate, Deactivate}
 use Rattle.model.specs.declared.Actor.{Actor}
 use Rattle.model.specs.declared.Actor.the-variants.{Driver, Device, External}
 use Rattle.model.specs.declared.Config.{Config}
 use Rattle.model.specs.declared.Operation.{Operation}
 use Rattle.model.proofs.ClosureLaws.{reads-active}
 use Rattle.model.proofs.FileQuestions.{file-yes}
+use Rattle.model.proofs.Facts.{Upto18}
 use Rattle.model.proofs.Demand2.{
   ask-true,
-  Upto18,
   Crossing,
   Naming,
   write-19,
   copy-19,
   deactivate-20,
+  activate-21,
 }
 use Rattle.model.proofs.FreshAnswers.{or-zero}
 use Rattle.model.proofs.Answers as answers
@@ -67,7 +70,7 @@ module _ (file area bytes answer : List ℕ) where
   -- 0 exactly if each is a yes
   accepted-yes : answers.AllYes file area bytes answer → AllYes file area bytes answer
   accepted-yes y =
-      let p = y .p11-20 in
+      let p = y .p11-21 in
       record {
         y1-18 = record {
           y1-6 = file-yes file .0 (y .p1-6);
@@ -86,6 +89,7 @@ module _ (file area bytes answer : List ℕ) where
         };
         y19 = p .p19;
         y20 = p .p20;
+        y21 = p .p21;
       }
 
   yes-accepted : AllYes file area bytes answer → answers.AllYes file area bytes answer
@@ -97,7 +101,7 @@ module _ (file area bytes answer : List ℕ) where
         p8 = le-leb answerBytes (length answer) (u .y8);
         p9 = u .y9;
         p10 = u .y10;
-        p11-20 = record {
+        p11-21 = record {
           p11 = u .y11;
           p12 = u .y12;
           p13 = u .y13;
@@ -108,10 +112,11 @@ module _ (file area bytes answer : List ℕ) where
           p18 = u .y18;
           p19 = y .y19;
           p20 = y .y20;
+          p21 = y .y21;
         };
       }
 
-  -- with 1 to 10 a yes, a call answers what 11 to 20 answer
+  -- with 1 to 10 a yes, a call answers what 11 to 21 answer
   answered : (n : ℕ) → (outcome (records config) n config op area answer) .0 ≡ n
   answered zero = refl
   answered (suc n) = refl
@@ -155,17 +160,17 @@ module _ (file area bytes answer : List ℕ) where
         sym (ap (λ (g : Family). apply config op g (actorIn bytes) state) d
         ∙ ap (λ (b : Actor). apply config op f b state) e)
 
-    -- question 19
+    -- questions 19 and 21: both are about the state that would follow
     crossed : (b : State) → Crossing config b ↔ SomeCrosses config b
     crossed b = (
       (λ q. let (c, o, v, e, r, m, k) = q in (c, o, v, e, reads-active r, r, m, k)),
       λ q. let (c, o, v, e, a, r, m, k) = q in (c, o, v, e, r, m, k),
     )
 
-    by-19 : (f : Family) (a : Actor) → familyIn bytes ≡ f → actorIn bytes ≡ a
-        → (judge config state op f a ≡ 19) ↔ Crossing config (apply config op f a state)
-        → ((operate file area bytes answer) .0 ≡ 19) ↔ SomeCrosses config (applied config op state)
-    by-19 f a d e w =
+    by-search : (n : ℕ) (f : Family) (a : Actor) → familyIn bytes ≡ f → actorIn bytes ≡ a
+        → (judge config state op f a ≡ n) ↔ Crossing config (apply config op f a state)
+        → ((operate file area bytes answer) .0 ≡ n) ↔ SomeCrosses config (applied config op state)
+    by-search n f a d e w =
         let i = applied-as f a d e in
         let j = judged-as f a d e in (
           (λ h. subst (SomeCrosses config) i (crossed (apply config op f a state) .0 (w .0 (sym j ∙ h)))),
@@ -175,11 +180,17 @@ module _ (file area bytes answer : List ℕ) where
     driver-19 : ByDriver op
         → ((operate file area bytes answer) .0 ≡ 19) ↔ SomeCrosses config (applied config op state)
     driver-19 (inl h) =
-        by-19 Write Driver (ap familyOf h) (ap actorOf h)
+        by-search 19 Write Driver (ap familyOf h) (ap actorOf h)
         (write-19 config state op (upto Write Driver (ap familyOf h) (ap actorOf h)))
     driver-19 (inr h) =
-        by-19 Copy Driver (ap familyOf h) (ap actorOf h)
+        by-search 19 Copy Driver (ap familyOf h) (ap actorOf h)
         (copy-19 config state op (upto Copy Driver (ap familyOf h) (ap actorOf h)))
+
+    device-21 : Entering op
+        → ((operate file area bytes answer) .0 ≡ 21) ↔ SomeCrosses config (applied config op state)
+    device-21 h =
+        by-search 21 Activate Device (ap familyOf h) (ap actorOf h)
+        (activate-21 config state op (upto Activate Device (ap familyOf h) (ap actorOf h)))
 
     -- question 20: 'another device' is a device other than the one that leaves, which there is in code 11 alone
     module _ (a : Actor) (code : actorIn bytes ≡ a)
@@ -221,7 +232,7 @@ module _ (file area bytes answer : List ℕ) where
     leaving-20 (inr (inr h)) =
         by-20 External (ap actorOf h) (λ c d k. absurd (omega arith)) (λ c l d. no-zero c l) (ap familyOf h)
 
--- demand 2: the three statements
+-- demand 2: the four statements
 pub acceptance : Acceptance
 acceptance file area bytes answer = (
   (λ h. accepted-yes file area bytes answer (answer-zero file area bytes answer .0 h)),
@@ -234,5 +245,14 @@ refusal-19 file area bytes answer u = driver-19 file area bytes answer u
 pub refusal-20 : Refusal20
 refusal-20 file area bytes answer u = leaving-20 file area bytes answer u
 
+pub refusal-21 : Refusal21
+refusal-21 file area bytes answer u = device-21 file area bytes answer u
+
 pub demand-2 : Demand2
-demand-2 = record { accepted = acceptance; refused-19 = refusal-19; refused-20 = refusal-20 }
+demand-2 =
+    record {
+      accepted = acceptance;
+      refused-19 = refusal-19;
+      refused-20 = refusal-20;
+      refused-21 = refusal-21;
+    }

@@ -40,6 +40,7 @@ pub mod FormedStores
 pub mod FormedStatus
 pub mod FormedMoves
 pub mod Reached
+pub mod Rings
 pub mod Demand2
 pub mod OperationRange
 pub mod Answers

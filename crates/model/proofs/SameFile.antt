@@ -163,11 +163,10 @@ module _ (config other : Config) (same : SameFile config other) where
       o : ℕ
       o = e .object
 
-      test : Bool → Bool → ℕ → ℕ → ℕ → Bool
-      test guard last kind class owner =
-          guard && eqb class 2 && eqb owner c && not (eqb kind 4) && (not (eqb kind 1) || last)
+      test : Bool → ℕ → ℕ → ℕ → Bool
+      test guard kind class owner = guard && eqb class 2 && eqb owner c && not (eqb kind 4)
 
-      outside : (k l m k′ l′ m′ : ℕ) → test false (eqb (e .mode) 1) k l m ≡ test false (eqb (e .mode) 1) k′ l′ m′
+      outside : (k l m k′ l′ m′ : ℕ) → test false k l m ≡ test false k′ l′ m′
       outside k l m k′ l′ m′ = refl
 
       go : (t : Bool) → from1to o (config .counts .objects) ≡ t → ownEntry config c e ≡ ownEntry other c e
@@ -178,15 +177,15 @@ module _ (config other : Config) (same : SameFile config other) where
           let l = same .class o low high in
           let m = same .owner o low high in
           let s = same .counts in
-          λ x. test (from1to o (s x .objects)) (eqb (e .mode) 1) (k x) (l x) (m x)
+          λ x. test (from1to o (s x .objects)) (k x) (l x) (m x)
       go false h =
           let s = same .counts in
           let g : from1to o (other .counts .objects) ≡ false =
           ap (λ (n : Counts). from1to o (n .objects)) (sym s) ∙ h in
-          (λ x. test (h x) (eqb (e .mode) 1) (kindOf config o) (classOf config o) (ownerOf config o))
+          (λ x. test (h x) (kindOf config o) (classOf config o) (ownerOf config o))
           ∙ (outside (kindOf config o) (classOf config o) (ownerOf config o) (kindOf other o) (classOf other o)
           (ownerOf other o)
-          ∙ λ x. test (sym g x) (eqb (e .mode) 1) (kindOf other o) (classOf other o) (ownerOf other o))
+          ∙ λ x. test (sym g x) (kindOf other o) (classOf other o) (ownerOf other o))
 
   pub same-restrained : ((c : ℕ) → 1 ≤ c → c ≤ config .counts .devices → hardcodedOf config c ≤ config .counts .values)
       → restrained config ≡ restrained other

@@ -236,9 +236,8 @@ paired config =
 abbrev pub ownEntry : Config → ℕ → Entry → Bool
 ownEntry config c e =
     owns config 2 c (e .object) && not (eqb (kindOf config (e .object)) 4)
-    && (not (eqb (kindOf config (e .object)) 1) || eqb (e .mode) 1)
 
--- question 6: each hardcoded value names only its own device's objects, none of kind 4, and kind 1 by mode 1 only
+-- question 6: each hardcoded value names only its own device's objects, none of kind 4
 unfoldable pub restrained : Config → Bool
 restrained config =
     every (config .counts .devices) (λ c. all (ownEntry config c) (entries config (hardcodedOf config c)))

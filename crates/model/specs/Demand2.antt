@@ -14,7 +14,7 @@ use Rattle.model.specs.State.{State, records, areaLength, view, wellForm
 use Rattle.model.specs.Closure.{active, Reads, crosses}
 use Rattle.model.specs.Operation.{familyOf, actorOf, readOperation}
 use Rattle.model.specs.Effect.{answerBytes, concerned}
-use Rattle.model.specs.Questions.{q11, q12, q13, q14, q15, q16, q17, q18, q19, q20}
+use Rattle.model.specs.Questions.{q11, q12, q13, q14, q15, q16, q17, q18, q19, q20, q21}
 use Rattle.model.specs.Gate.{applied, operate}
 use Rattle.model.specs.declared.Config.{Config}
 use Rattle.model.specs.declared.Family.{Family}
@@ -53,11 +53,12 @@ pub record Upto18 (file area bytes answer : List ℕ) : Type 0 where
   pub y17 : q17 (stateIn file area) (operationIn bytes) (familyIn bytes) (actorIn bytes) ≡ true
   pub y18 : q18 (configIn file) (stateIn file area) (operationIn bytes) (familyIn bytes) (actorIn bytes) ≡ true
 
--- document 01, 'The questions': each of the twenty is a yes
+-- document 01, 'The questions', and document 02, N4: each of the twenty-one is a yes
 pub record AllYes (file area bytes answer : List ℕ) : Type 0 where
   pub y1-18 : Upto18 file area bytes answer
   pub y19 : q19 (configIn file) (stateIn file area) (operationIn bytes) (familyIn bytes) (actorIn bytes) ≡ true
   pub y20 : q20 (configIn file) (stateIn file area) (operationIn bytes) (familyIn bytes) (actorIn bytes) ≡ true
+  pub y21 : q21 (configIn file) (stateIn file area) (operationIn bytes) (familyIn bytes) (actorIn bytes) ≡ true
 
 -- document 01, 'The questions': 0 is accepted
 abbrev pub Acceptance : Type 0
@@ -101,8 +102,21 @@ Refusal20 =
     → ((operate file area bytes answer) .0 ≡ 20)
     ↔ SomeNames (configIn file) (stateIn file area) (operationIn bytes)
 
+-- document 02, N4, question 21, code 8: a device (document 01: card) is brought in
+abbrev pub Entering : Operation → Type 0
+Entering op = op .code ≡ 8
+
+-- demand 2, question 21: with 1 to 18 a yes, exactly if some entry crosses in the state that would follow, whichever
+-- active device's it is
+abbrev pub Refusal21 : Type 0
+Refusal21 =
+    (file area bytes answer : List ℕ) → Upto18 file area bytes answer → Entering (operationIn bytes)
+    → ((operate file area bytes answer) .0 ≡ 21)
+    ↔ SomeCrosses (configIn file) (applied (configIn file) (operationIn bytes) (stateIn file area))
+
 -- demand 2 as one statement; what an accepted call leaves is `operate`'s own definition (Gate)
 pub record Demand2 : Type 0 where
   pub accepted : Acceptance
   pub refused-19 : Refusal19
   pub refused-20 : Refusal20
+  pub refused-21 : Refusal21

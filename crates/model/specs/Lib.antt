@@ -18,3 +18,4 @@ pub mod Examples
 pub mod NumberMeans
 pub mod FileQuestions
 pub mod Demand2
+pub mod Rings

@@ -1,4 +1,4 @@
--- Questions 18 to 20 from their parts. Assumes nothing.
+-- Questions 18 to 21 from their parts. Assumes nothing.
 use Prim.Native.Nat.{ℕ, zero, suc}
 use mathlib.Core.Path.{_≡_, refl, sym, ap, _∙_, subst}
 use mathlib.Core.List.{List}
@@ -11,7 +11,7 @@ use Rattle.model.specs.State.{State, held, view, layout}
 use Rattle.model.specs.Operation.{objectAt, secondAt}
 use Rattle.model.specs.Effect.{apply, concerned}
 use Rattle.model.specs.Closure.{confined, unnamed, described}
-use Rattle.model.specs.Questions.{readEntry, writeEntry, transfer, q18, q19, q20, itself}
+use Rattle.model.specs.Questions.{readEntry, writeEntry, transfer, q18, q19, q20, q21, itself}
 use Rattle.model.specs.Gate.{applied}
 use Rattle.model.specs.declared.Family.{Family}
 use Rattle.model.specs.declared.Family.the-variants.{Write, Copy, Create, Destroy, Activate, Deactivate}
@@ -21,7 +21,7 @@ use Rattle.model.specs.declared.Config.{Config}
 use Rattle.model.specs.declared.Operation.{Operation}
 use Rattle.questions.specs.Items.{allBelow}
 use Rattle.searches.specs.Ready.{Searchable, Ready, Asked}
-use Rattle.searches.specs.Asking.{stores, leaves, byDevice, pairDescribed, transferOf, itemDescribed, Marks}
+use Rattle.searches.specs.Asking.{stores, leaves, byDevice, enters, pairDescribed, transferOf, itemDescribed, Marks}
 use Rattle.searches.proofs.Readying
 
 -- only a deactivation leaves
@@ -182,6 +182,30 @@ module _ (config : Config) (b : State) (op : Operation) where
       rw (leaves-is f h, ← p)
       (q ∙ ap (λ (n : ℕ → Bool). unnamed config b n c) (λ i o. m o i))
 
+  -- question 21
+  pub q21-free : (f : Family) (a : Actor) → enters f a ≡ false → true ≡ q21 config b op f a
+  unfolding q21
+  q21-free Write a h = refl
+  q21-free Copy a h = refl
+  q21-free Create a h = refl
+  q21-free Destroy a h = refl
+  q21-free Activate Driver h = refl
+  q21-free Activate Device h = absurd (true≢false h)
+  q21-free Activate External h = refl
+  q21-free Deactivate a h = refl
+
+  q21-after : (f : Family) (a : Actor) → enters f a ≡ true
+      → confined config (apply config op f a b) ≡ q21 config b op f a
+  unfolding q21
+  q21-after Write a h = absurd (false≢true h)
+  q21-after Copy a h = absurd (false≢true h)
+  q21-after Create a h = absurd (false≢true h)
+  q21-after Destroy a h = absurd (false≢true h)
+  q21-after Activate Driver h = absurd (false≢true h)
+  q21-after Activate Device h = refl
+  q21-after Activate External h = absurd (false≢true h)
+  q21-after Deactivate a h = absurd (false≢true h)
+
 pub q19-next : (config : Config) (room : ℕ) (area : List ℕ) (op : Operation) (f : Family) (a : Actor)
     → Ready config room area → Asked config op f a → stores f ≡ true → byDevice a ≡ false → {s : List ℕ}
     → s ≡ layout (applied config op (view room area)) → {r : Bool} → r ≡ confined config (view room s)
@@ -190,7 +214,15 @@ q19-next config room area op f a ready asked h k {s} e p =
     p ∙ (ap (confined config) (Readying.next-view config room area op f a ready asked s e)
     ∙ q19-after config (view room area) op f a h k)
 
--- question 19: what is searched is the area s that the operation leaves
+pub q21-next : (config : Config) (room : ℕ) (area : List ℕ) (op : Operation) (f : Family) (a : Actor)
+    → Ready config room area → Asked config op f a → enters f a ≡ true → {s : List ℕ}
+    → s ≡ layout (applied config op (view room area)) → {r : Bool} → r ≡ confined config (view room s)
+    → r ≡ q21 config (view room area) op f a
+q21-next config room area op f a ready asked h {s} e p =
+    p ∙ (ap (confined config) (Readying.next-view config room area op f a ready asked s e)
+    ∙ q21-after config (view room area) op f a h)
+
+-- questions 19 and 21: what is searched is the area s that the operation leaves
 pub searched-at : (config : Config) (room : ℕ) (s t : List ℕ) → s ≡ t → Searchable config room t
     → Searchable config room s
 searched-at config room s t e h = subst (Searchable config room) (sym e) h

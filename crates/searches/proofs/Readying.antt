@@ -11,7 +11,7 @@ use borrow.Author.Tests.{eqb-true}
 use Rattle.model.specs.Config.{mostObjects, mostValues}
 use Rattle.model.specs.ConfigFile.{load}
 use Rattle.model.specs.Number.{mostNumber}
-use Rattle.model.specs.State.{State, roomFor, areaLength, view, layout, wellFormed}
+use Rattle.model.specs.State.{State, contentOf, roomFor, areaLength, view, layout, rightContent, wellFormed}
 use Rattle.model.specs.Operation.{familyOf, actorOf, mostItems, objectAt, readOperation}
 use Rattle.model.specs.Effect.{apply, answerBytes}
 use Rattle.model.specs.Questions.{q11, q13, isObject}
@@ -27,6 +27,7 @@ use Rattle.model.proofs.Accepted.{Sound, load-sound}
 use Rattle.model.proofs.Facts.{objects-room, room-most, passed}
 use Rattle.model.proofs.Formed.{Formed, formed-of, items-exist}
 use Rattle.model.proofs.FormedStores.{write-formed, copy-formed}
+use Rattle.model.proofs.FormedMoves.{activated-contents}
 use Rattle.model.proofs.OperationRange.{InRange, read-ranged}
 use Rattle.model.proofs.Reached.{layout-length}
 use Rattle.model.proofs.StateLaws.{Shape, view-layout, apply-shape}
@@ -37,7 +38,7 @@ use Rattle.effect.specs.Fit.{Fit}
 use Rattle.effect.proofs.Effects.{fit}
 use Rattle.scene.proofs.Accepting.{values-ok, owners-ok, area-ok}
 use Rattle.searches.specs.Ready.{Accepted, Searchable, Ready, Complete, Asked}
-use Rattle.searches.specs.Asking.{stores, InTable}
+use Rattle.searches.specs.Asking.{stores, enters, InTable}
 
 pub accepted-of : (file : List ℕ) {l : Loaded} → l ≡ load file → l .answer ≡ 0 → Accepted (l .config)
 accepted-of file e z = record {
@@ -51,13 +52,15 @@ sound-of config a = subst Sound (sym (a .same)) (load-sound (a .file) (a .yes))
 
 -- questions 7 and 9 make an area that can be searched
 searchable : (config : Config) (room : ℕ) → config .counts .objects ≤ room → Sound config → (area : List ℕ)
-    → length area ≡ areaLength room → Formed room config (view room area) → Searchable config room area
-searchable config room fits sound area long formed =
+    → length area ≡ areaLength room
+    → ((n : ℕ) → 1 ≤ n → n ≤ room → rightContent config n (contentOf (view room area) n) ≡ true)
+    → Searchable config room area
+searchable config room fits sound area long contents =
     record {
       values = values-ok config sound;
       owners = owners-ok config sound;
       held = area-ok config sound room area long fits
-          (λ o i. formed .contents o (i .low) (omega (arith, i .high, fits)));
+          (λ o i. contents o (i .low) (omega (arith, i .high, fits)));
     }
 
 pub ready-of : (config : Config) (room : ℕ) (area : List ℕ) → Accepted config
@@ -74,7 +77,7 @@ ready-of config room area a k e₇ y₇ e₉ y₉ =
       long = long;
       formed = h;
       searchable = searchable config room (k .0) (sound-of config a) area long
-          (formed-of room config (view room area) h);
+          (formed-of room config (view room area) h .contents);
     }
 
 pub complete-of : (bytes : List ℕ) {q : ℕ} {op : Operation} → q ≡ (readOperation bytes) .0
@@ -125,14 +128,34 @@ module _ (config : Config) (room : ℕ) (area : List ℕ) (op : Operation) (f : 
       let x : isObject config (objectAt op i) ≡ true = items-exist config op Deactivate a h i l in
       omega (arith, from1to-high (objectAt op i) (config .counts .objects) x, few-objects)
 
-  next-formed : (g : Family) → stores g ≡ true → q11 config op g a ≡ true → q13 config op g ≡ true
-      → Formed room config (view room area) → Formed room config (apply config op g a (view room area))
-  next-formed Write s p q h = write-formed room config (ready .fits) op (view room area) h a p q
-  next-formed Copy s p q h = copy-formed room config (ready .fits) op (view room area) h a p q
-  next-formed Create s p q h = absurd (false≢true s)
-  next-formed Destroy s p q h = absurd (false≢true s)
-  next-formed Activate s p q h = absurd (false≢true s)
-  next-formed Deactivate s p q h = absurd (false≢true s)
+  -- contents are right in the state that would follow
+  abbrev Right : State → Type 0
+  Right b = (n : ℕ) → 1 ≤ n → n ≤ room → rightContent config n (contentOf b n) ≡ true
+
+  abbrev before : State
+  before = view room area
+
+  formed : Formed room config before
+  formed = formed-of room config before (ready .formed)
+
+  stored-right : (g : Family) → stores g ≡ true → q11 config op g a ≡ true → q13 config op g ≡ true
+      → Right (apply config op g a before)
+  stored-right Write s p q = write-formed room config (ready .fits) op before formed a p q .contents
+  stored-right Copy s p q = copy-formed room config (ready .fits) op before formed a p q .contents
+  stored-right Create s p q = absurd (false≢true s)
+  stored-right Destroy s p q = absurd (false≢true s)
+  stored-right Activate s p q = absurd (false≢true s)
+  stored-right Deactivate s p q = absurd (false≢true s)
+
+  entered-right : (g : Family) → enters g a ≡ true → q11 config op g a ≡ true → Right (apply config op g a before)
+  unfolding apply
+  entered-right Write s p = absurd (false≢true s)
+  entered-right Copy s p = absurd (false≢true s)
+  entered-right Create s p = absurd (false≢true s)
+  entered-right Destroy s p = absurd (false≢true s)
+  entered-right Activate s p =
+      activated-contents room config op before (view-shape room area .contents) (formed .contents) a p
+  entered-right Deactivate s p = absurd (false≢true s)
 
   pub next-state : applied config op (view room area) ≡ apply config op f a (view room area)
   next-state =
@@ -152,11 +175,14 @@ module _ (config : Config) (room : ℕ) (area : List ℕ) (op : Operation) (f : 
     next-long : length s ≡ areaLength room
     next-long = ap length laid ∙ layout-length room (apply config op f a (view room area)) shape
 
+    after-searchable : Right (apply config op f a (view room area)) → Searchable config room s
+    after-searchable h = searchable config room (ready .fits) sound s next-long (subst Right (sym next-view) h)
+
     pub next-searchable : stores f ≡ true → Searchable config room s
-    next-searchable t =
-        searchable config room (ready .fits) sound s next-long
-        (subst (λ (b : State). Formed room config b) (sym next-view)
-        (next-formed f t (asked .p11) (asked .p13) (formed-of room config (view room area) (ready .formed))))
+    next-searchable t = after-searchable (stored-right f t (asked .p11) (asked .p13))
+
+    pub entered-searchable : enters f a ≡ true → Searchable config room s
+    entered-searchable t = after-searchable (entered-right f t (asked .p11))
 
 -- all questions are answered with yes
 pub passed-fit : (config : Config) (room : ℕ) (area answer : List ℕ) (op : Operation) → Ready config room area

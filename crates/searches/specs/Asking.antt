@@ -1,4 +1,4 @@
--- Whom questions 18 to 20 concern, and their parts by the numbers that a loop looks at.
+-- Whom questions 18 to 21 concern, and their parts by the numbers that a loop looks at.
 use Prim.Native.Nat.{ℕ, _≤_, _<_}
 use mathlib.Core.Path.{_≡_}
 use mathlib.Core.Bool.{Bool, true, false, _&&_, _||_}
@@ -39,6 +39,18 @@ abbrev pub byDevice : Actor → Bool
 byDevice Driver = false
 byDevice Device = true
 byDevice External = false
+
+abbrev pub activates : Family → Bool
+activates Write = false
+activates Copy = false
+activates Create = false
+activates Destroy = false
+activates Activate = true
+activates Deactivate = false
+
+-- a device is brought in
+abbrev pub enters : Family → Actor → Bool
+enters f a = activates f && byDevice a
 
 -- question 18: the scene m with the kinds and the state by which transfers are looked up; write entries do not count
 abbrev pub todayOf : Scene → List ℕ → State → Scene

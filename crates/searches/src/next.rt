@@ -1,4 +1,4 @@
-// Question 19: in the state that would follow no entry crosses.
+// Question 19: in the state that would follow no entry crosses; and the search of that state, which 21 needs too.
 ghost use mathlib.Core.Path.{_≡_};
 ghost use Prim.Native.Nat.{_≤_};
 ghost use lib.ListN.{length, replicate};
@@ -112,6 +112,20 @@ fn is_confined_wide(area: &[u8], room: usize, config: Config, op: Operation) -> 
     is_confined_after(area, &mut next[..n], room, config, op)
 }
 
+// The same by the room.
+pub(crate) fn is_confined_next(area: &[u8], room: usize, config: Config, op: Operation) -> bool
+    requires { ⌜ room ≤ mostObjects ⌝ }
+    requires { ⌜ Fit room op (now area) (replicate answerBytes 0) ⌝ }
+    requires { ⌜ Searchable config room (layout (applied config op (view room (now area)))) ⌝ }
+    ensures { λ r.
+        ⌜ r ≡ confined config (view room (layout (applied config op (view room (now (area .entry)))))) ⌝ }
+{
+    if room == SMALL_ROOM as usize {
+        return is_confined_small(area, room, config, op);
+    }
+    is_confined_wide(area, room, config, op)
+}
+
 // 19: after a write or copy, unless a device acts, no entry crosses.
 pub fn stays_confined(
     config: Config,
@@ -131,8 +145,5 @@ pub fn stays_confined(
     if !is_storing(f) {
         return true;
     }
-    if room == SMALL_ROOM as usize {
-        return is_confined_small(area, room, config, op);
-    }
-    is_confined_wide(area, room, config, op)
+    is_confined_next(area, room, config, op)
 }

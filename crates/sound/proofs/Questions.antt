@@ -250,18 +250,18 @@ module _ (counts : Counts) (kind class owner : List ℕ) where
       (every-same (counts .devices) _ _ (λ c low high. ap (λ (n : ℕ). eqb n 1) (h c (omega arith))))
 
 -- an object that is none, one past the last, and one of the configuration's
-module _ (kind class owner : List ℕ) (n c o mode : ℕ) where
-  pub name-none : o ≡ 0 → false ≡ mayName kind class owner n c o mode
+module _ (kind class owner : List ℕ) (n c o : ℕ) where
+  pub name-none : o ≡ 0 → false ≡ mayName kind class owner n c o
   unfolding mayName
   name-none h = rw (lt-leb 1 o (omega arith))
 
-  pub name-past : n < o → false ≡ mayName kind class owner n c o mode
+  pub name-past : n < o → false ≡ mayName kind class owner n c o
   unfolding mayName
   name-past h = rw (lt-leb o n h, and-false)
 
   pub name-rest : (o ≡ 0 → ⊥) → o ≤ n
       → (eqb (getD class o 0) 2 && eqb (getD owner o 0) c) && not (eqb (getD kind o 0) 4)
-      && (not (eqb (getD kind o 0) 1) || eqb mode 1) ≡ mayName kind class owner n c o mode
+      ≡ mayName kind class owner n c o
   unfolding mayName
   name-rest h l = rw (le-leb 1 o (omega arith), le-leb o n l)
 

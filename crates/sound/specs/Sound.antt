@@ -47,15 +47,13 @@ pairedBy counts kind class owner =
     everyTo (counts .devices) (hasOne kind class owner (counts .objects))
     && everyTo (counts .objects) (deviceOwned kind class)
 
--- the hardcoded value of device c may name object o by this mode, with n objects
-unfoldable pub mayName : List ℕ → List ℕ → List ℕ → ℕ → ℕ → ℕ → ℕ → Bool
-mayName kind class owner n c o mode =
-    (from1to o n && eqb (getD class o 0) 2 && eqb (getD owner o 0) c)
-    && not (eqb (getD kind o 0) 4)
-    && (not (eqb (getD kind o 0) 1) || eqb mode 1)
+-- the hardcoded value of device c may name object o, with n objects
+unfoldable pub mayName : List ℕ → List ℕ → List ℕ → ℕ → ℕ → ℕ → Bool
+mayName kind class owner n c o =
+    (from1to o n && eqb (getD class o 0) 2 && eqb (getD owner o 0) c) && not (eqb (getD kind o 0) 4)
 
 unfoldable pub entryPasses : List ℕ → List ℕ → List ℕ → ℕ → ℕ → Entry → Bool
-entryPasses kind class owner n c e = mayName kind class owner n c (e .object) (e .mode)
+entryPasses kind class owner n c e = mayName kind class owner n c (e .object)
 
 -- the k entries from a place on pass
 unfoldable pub allFrom : (Entry → Bool) → List ℕ → ℕ → ℕ → Bool

@@ -16,8 +16,6 @@ use model::ENTRY_BYTES;
 use model::ENTRY_SLOTS;
 use model::HARDCODED_KIND;
 use model::OBJECT_SLOTS;
-use model::READ_MODE;
-use model::TRANSFER_KIND;
 use model::VALUE_SLOTS;
 use model::byte_at;
 use model::entry_place;
@@ -84,7 +82,7 @@ pub fn is_paired<'a>(
     each_has_one(&*owned, counts.devices)
 }
 
-// The hardcoded value of device v may name object o by this mode.
+// The hardcoded value of device v may name object o.
 fn may_name<'a>(
     kind: &'a [u8; OBJECT_SLOTS],
     class: &'a [u8; OBJECT_SLOTS],
@@ -92,10 +90,9 @@ fn may_name<'a>(
     n: u8,
     v: u8,
     o: u8,
-    mode: u8,
 ) -> bool
     requires { ⌜ n ≤ mostObjects ⌝ }
-    ensures { λ r. ⌜ r ≡ mayName (now (kind .entry)) (now (class .entry)) (now (owner .entry)) n v o mode ⌝ }
+    ensures { λ r. ⌜ r ≡ mayName (now (kind .entry)) (now (class .entry)) (now (owner .entry)) n v o ⌝ }
 {
     if o == 0 {
         return false;
@@ -108,7 +105,7 @@ fn may_name<'a>(
     let c = class[i];
     let w = owner[i];
     let own = (c == DEVICE_CLASS) & (w == v);
-    own & (k != HARDCODED_KIND) & ((k != TRANSFER_KIND) | (mode == READ_MODE))
+    own & (k != HARDCODED_KIND)
 }
 
 // The entry at a place of the table is one that the hardcoded value of device v may have.
@@ -128,8 +125,7 @@ fn entry_passes<'a>(
         (entryAt (now (entries .entry)) at) ⌝ }
 {
     let o = byte_at(entries, at);
-    let mode = byte_at(entries, at + 1);
-    may_name(kind, class, owner, n, v, o, mode)
+    may_name(kind, class, owner, n, v, o)
 }
 
 // The k entries from a place of the table on are such.

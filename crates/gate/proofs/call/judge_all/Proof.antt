@@ -73,19 +73,41 @@ returns-5 : tie.Need-returns-5
 returns-5 c =
     let g = c .before .before .before in let d = g .before .before in let s = d .before .before .before in
     let j = s .before .before .before in let a = j .before .before .before .before .before .before .before .before in
-    Calling.all-yes _ _ _ (j .judge .ensures (a .args .t1)) (s .before .before .if1 .left)
-    (s .before .family-of .ensures) (s .actor-of .ensures) (d .are-described .ensures)
-    (not-false _ (g .before .if3 .left)) (g .stays-confined .ensures) (not-false _ (c .before .before .if4 .left))
-    (c .before .stays-unnamed .ensures) (c .if5 .taken)
-
-returns-6 : tie.Need-returns-6
-returns-6 c =
-    let g = c .before .before .before in let d = g .before .before in let s = d .before .before .before in
-    let j = s .before .before .before in let a = j .before .before .before .before .before .before .before .before in
     Calling.no-20 _ _ _ (j .judge .ensures (a .args .t1)) (s .before .before .if1 .left)
     (s .before .family-of .ensures) (s .actor-of .ensures) (d .are-described .ensures)
     (not-false _ (g .before .if3 .left)) (g .stays-confined .ensures) (not-false _ (c .before .before .if4 .left))
-    (c .before .stays-unnamed .ensures) (c .if5 .left)
+    (c .before .stays-unnamed .ensures) (not-true _ (c .if5 .taken))
+
+enters-confined-requires : tie.Need-enters-confined-requires
+enters-confined-requires c κs =
+    let s = c .before .before .before .before .before .before .before .before in let j = s .before .before .before in
+    let a = j .before .before .before .before .before .before .before .before in (
+      a .pre .0,
+      Calling.asked-of _ _ _ (j .judge .ensures (a .args .t1)) (s .before .before .if1 .left)
+          (s .before .family-of .ensures) (s .actor-of .ensures) (a .pre .1),
+    )
+
+returns-6 : tie.Need-returns-6
+returns-6 c =
+    let u = c .before .before .before in
+    let g = u .before .before in let d = g .before .before in let s = d .before .before .before in
+    let j = s .before .before .before in let a = j .before .before .before .before .before .before .before .before in
+    Calling.all-yes _ _ _ (j .judge .ensures (a .args .t1)) (s .before .before .if1 .left)
+    (s .before .family-of .ensures) (s .actor-of .ensures) (d .are-described .ensures)
+    (not-false _ (g .before .if3 .left)) (g .stays-confined .ensures) (not-false _ (u .before .if4 .left))
+    (u .stays-unnamed .ensures) (not-false _ (c .before .before .if5 .left)) (c .before .enters-confined .ensures)
+    (c .if6 .taken)
+
+returns-7 : tie.Need-returns-7
+returns-7 c =
+    let u = c .before .before .before in
+    let g = u .before .before in let d = g .before .before in let s = d .before .before .before in
+    let j = s .before .before .before in let a = j .before .before .before .before .before .before .before .before in
+    Calling.no-21 _ _ _ (j .judge .ensures (a .args .t1)) (s .before .before .if1 .left)
+    (s .before .family-of .ensures) (s .actor-of .ensures) (d .are-described .ensures)
+    (not-false _ (g .before .if3 .left)) (g .stays-confined .ensures) (not-false _ (u .before .if4 .left))
+    (u .stays-unnamed .ensures) (not-false _ (c .before .before .if5 .left)) (c .before .enters-confined .ensures)
+    (c .if6 .left)
 
 pub judge-all-spec : {M : Type 1} → statement M
 judge-all-spec =
@@ -103,4 +125,6 @@ judge-all-spec =
     returns-4
     stays-unnamed-requires
     returns-5
-    returns-6)
+    enters-confined-requires
+    returns-6
+    returns-7)
