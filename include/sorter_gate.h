@@ -72,7 +72,7 @@ enum sorter_gate_answer {
     SORTER_GATE_FIELD_RANGE = 3,     /* line file: a number is out of its field's range */
     SORTER_GATE_LEFT_OVER = 4,       /* line file: bytes are left over */
     SORTER_GATE_HARDWIRED_OWNER = 5, /* line file: a card has not just one kind 4 object, or kind 4 has no card */
-    SORTER_GATE_HARDWIRED_VALUE = 6, /* line file: a hard-wired value names what it may not */
+    SORTER_GATE_HARDWIRED_VALUE = 6, /* line file: a hard-wired value names what is not its card's, or kind 4 */
     SORTER_GATE_STATE_LENGTH = 7,    /* the state area has another length than the line needs */
     SORTER_GATE_ANSWER_LENGTH = 8,   /* the answer area is too short */
     SORTER_GATE_STATE_FORM = 9,      /* the state is not well formed */
@@ -86,7 +86,8 @@ enum sorter_gate_answer {
     SORTER_GATE_ELSEWHERE = 17,      /* an object is not in the driver's partition, or not in the one named */
     SORTER_GATE_NOT_DESCRIBED = 18,  /* a card's transfer is not described by what it reads now */
     SORTER_GATE_OUTSIDE = 19,        /* a chain of descriptor writes would lead a card out of its partition */
-    SORTER_GATE_IN_REACH = 20        /* an active card can reach an object that would leave */
+    SORTER_GATE_IN_REACH = 20,       /* an active card can reach an object that would leave */
+    SORTER_GATE_ENTERS_OUTSIDE = 21  /* with this card brought in, a chain of writes would lead a card outside */
 };
 /* end answers */
 

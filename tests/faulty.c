@@ -146,7 +146,7 @@ static void change(struct lent lent, enum sorter_gate_kind kind) {
 
 // Another number of a refusal.
 static uint64_t other_than(uint64_t number) {
-    return number % SORTER_GATE_IN_REACH + 1;
+    return number % SORTER_GATE_ENTERS_OUTSIDE + 1;
 }
 
 // The faults of gate_rewrite, after the real call.

@@ -22,14 +22,14 @@
 #include "state_bytes.h"
 
 // A session is a fresh state and the calls after it, on one sound line.
-enum { NUMBERS = 21, CODES = 13, SESSION = 256 };
+enum { NUMBERS = 22, CODES = 13, SESSION = 256 };
 
 // The calls that judge: their answer is a number alone.
 enum call { LOAD_CHECK, FRESH, OPERATE, CALLS };
 
 // For each its name, the last question that it puts, and how many of the areas it takes, the first ones.
 static const char *const CALL_TEXTS[CALLS] = {"gate_load_check", "gate_fresh", "gate_operate"};
-static const uint32_t LAST_NUMBERS[CALLS] = {6, 7, 20};
+static const uint32_t LAST_NUMBERS[CALLS] = {6, 7, 21};
 static const int TAKES[CALLS] = {LINE + 1, STATE + 1, ANSWER + 1};
 
 // What came on small lines, and on wide ones.

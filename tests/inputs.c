@@ -43,6 +43,9 @@ static uint64_t seed;
 // Whether all of a session is brought into partition 1, where nearly everything may be described, or into 1 and 2.
 static int together;
 
+// Whether hardcoded values write transfer descriptors of their own devices, on every second random line.
+static int rings;
+
 void seed_inputs(uint64_t from) {
     seed = from;
 }
@@ -132,8 +135,8 @@ static uint8_t *put_objects(const uint8_t *line, uint8_t *at) {
     return at;
 }
 
-// An entry of a value, where one comes about; few name hardcoded descriptors. That of a device's hardcoded value reads,
-// and names an object that the device owns.
+// An entry of a value, where one comes about; few name hardcoded descriptors. That of a device's hardcoded value names
+// an object that the device owns, and reads it; on a line with rings it may also write.
 static uint8_t *put_entry(const uint8_t *line, size_t value, uint8_t *at) {
     unsigned object = 1 + (unsigned)below(objects_of(line));
     const uint8_t *declared = object_in_line(line, object);
@@ -142,7 +145,7 @@ static uint8_t *put_entry(const uint8_t *line, size_t value, uint8_t *at) {
         (hardcoded && (declared[1] != BY_DEVICE || declared[2] != value))) {
         return at;
     }
-    uint8_t mode = hardcoded ? READ : (uint8_t)(1 + below(3));
+    uint8_t mode = hardcoded && !rings ? READ : (uint8_t)(1 + below(3));
     at = put_number(at, object);
     *at++ = mode;
     *at++ = declared[0] == TRANSFER && mode != READ ? (uint8_t)below(values_of(line) + 1u) : 0;
@@ -178,6 +181,7 @@ size_t sound_line(uint8_t *to) {
     }
     size_t size = below(4);
     int full = size == 0, wide = size == 1;
+    rings = below(2) == 0;
     if (wide && below(2)) {
         return lifted_l(wide_count(), to);
     }

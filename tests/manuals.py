@@ -235,22 +235,23 @@ def check_stored_file(copy):
         raise Fault(f"docs/CONTROLLER.md: a stored area's file is not what it says:\n{printed}{stored.hex()}")
 
 
-def check_way_out(copy):
-    """The record that docs/CONTROLLER.md gives for 20, put before the last of the example, has it accepted."""
-    found = re.search(r"In `(examples/questions/20)` the record `([\d ]+)` before the last does it",
+def check_way_out(copy, number):
+    """The record that docs/CONTROLLER.md gives for a question, put before the last of its example, has it accepted."""
+    found = re.search(rf"In `(examples/questions/{number})` the record `([\d ]+)` before the last does it",
                       " ".join(text_of("docs/CONTROLLER.md").split()))
     if not found:
-        raise Fault("docs/CONTROLLER.md: gives no record for 20")
+        raise Fault(f"docs/CONTROLLER.md: gives no record for {number}")
     record = bytes(int(number) for number in found[2].split())
-    shutil.copytree(copy / found[1], copy / "way-out")
+    way = f"way-out-{number}"
+    shutil.copytree(copy / found[1], copy / way)
     session = (copy / found[1] / "session.bin").read_bytes()
     last = 0
     while last + session[last] + 1 < len(session):
         last += session[last] + 1
-    (copy / "way-out" / "session.bin").write_bytes(session[:last] + bytes([len(record)]) + record + session[last:])
-    rows, status = run(["./judge", "way-out"], copy)
+    (copy / way / "session.bin").write_bytes(session[:last] + bytes([len(record)]) + record + session[last:])
+    rows, status = run(["./judge", way], copy)
     if status:
-        raise Fault(f"docs/CONTROLLER.md: with the record that it gives for 20 the answers are\n{rows}")
+        raise Fault(f"docs/CONTROLLER.md: with the record that it gives for {number} the answers are\n{rows}")
 
 
 def literals(path):
@@ -293,7 +294,8 @@ def main():
         check_c(copy)
         check_rust(copy)
         check_stored_file(copy)
-        check_way_out(copy)
+        for number in (20, 21):
+            check_way_out(copy, number)
         check_performance(outputs["docs/CONTROLLER.md"][STACK])
     print(f"manuals: {sum(map(len, outputs.values()))} commands of {len(MANUALS)} manuals do as they say")
 

@@ -7,7 +7,8 @@
 All are over file L of document 01: two drivers, two cards, six objects, five values. Object 1 is card 1's hard-wired
 descriptor (value 1: read object 2), object 2 its transfer descriptor; 3 and 4 are card 2's (value 2: read object 4); 5
 is external data, 6 is data of driver 1. Value 3 writes object 5; value 4 puts value 3 into object 4; value 5 puts value
-4 into object 2. Every number of these examples is below 128, so that a number is one byte.
+4 into object 2. Every number of these examples is below 128, so that a number is one byte. Examples 1 to 6 and 21 have
+a line of their own: L with a change.
 """
 import pathlib
 import sys
@@ -42,6 +43,8 @@ def fresh(length=STATE_BYTES):
     return area
 
 
+# File L with a ring: value 1 reads and writes object 2, card 1's own, and puts value 3 there.
+RING = line(values=[[1, 2, 3, 3]] + VALUES[1:])
 CREATE_1, CREATE_2, DESTROY_1 = [5, 1], [5, 2], [6, 1]
 DRIVER_1_IN, CARD_1_IN, CARD_2_IN, OBJECT_5_IN = [7, 1, 1], [8, 1, 1], [8, 2, 2], [9, 1, 1, 5]
 READY = [CREATE_1, CREATE_2, DRIVER_1_IN, CARD_1_IN, CARD_2_IN, OBJECT_5_IN]
@@ -76,7 +79,11 @@ SESSIONS = {
     19: (READY + [[1, 1, 1, 2, 0, 5]], "driver 1 writes value 5 to object 2: it would put value 4 there, which writes "
          "object 4 of partition 2"),
     20: (READY + [[1, 1, 1, 2, 0, 3], [12, 1, 1, 5]], "object 5 is taken out while card 1's descriptor writes it"),
+    21: ([CREATE_1, CARD_1_IN], "file L, but value 1 reads and writes object 2 and puts value 3 there: card 1 is "
+         "brought in before object 5, which value 3 writes"),
 }
+# The lines of sessions that are not over L.
+SESSION_LINES = {21: RING}
 
 
 def files():
@@ -88,7 +95,7 @@ def files():
         made[number] = {"line.bin": L, "state.bin": bytes(state), "record.bin": bytes(CREATE_1),
                         "answer.bin": bytes(room)}, text
     for number, (records, text) in SESSIONS.items():
-        made[number] = {"line.bin": L, "session.bin": session(*records)}, text
+        made[number] = {"line.bin": SESSION_LINES.get(number, L), "session.bin": session(*records)}, text
     return {f"{number:02}/{name}": data for number, (folder, text) in made.items()
             for name, data in {**folder, "README": f"Question {number}: {text}.\n".encode()}.items()}
 

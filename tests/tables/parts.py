@@ -144,7 +144,7 @@ def questions_of_plan():
     for number, row in rows:
         made += [f"    ({number}, {code}): {quoted(text)}," for code, text in row["plan"].items() if code]
     return made + ["}"] + [f"{row['constant']} = {number}" for number, row in rows
-                           if row["constant"] in ("OUTSIDE", "IN_REACH")]
+                           if row["constant"] in ("OUTSIDE", "IN_REACH", "ENTERS_OUTSIDE")]
 
 
 def then_of(row):

@@ -90,7 +90,7 @@ QUESTIONS = {
     3: "Is every number of the line in its range?",
     4: "Is line.bin used to its last byte?",
     5: "Has each card exactly one hard-wired descriptor, and each hard-wired descriptor a card as owner?",
-    6: "Does each hard-wired value name only its own card's objects, none hard-wired, transfer descriptors by read?",
+    6: "Does each hard-wired value name only its own card's objects, none hard-wired?",
     7: "Has the state area the length that the line needs?",
     8: "Is the answer area long enough?",
     9: "Is the state well formed?",
@@ -105,6 +105,7 @@ QUESTIONS = {
     18: "Is each transfer described now, in a descriptor that the card reads?",
     19: "With this done, is every card kept inside its partition?",
     20: "Is what leaves out of reach of every card that stays?",
+    21: "With this card brought in, is every card kept inside its partition?",
 }
 # Where a question is put in other words for some codes.
 QUESTIONS_BY_CODE = {
@@ -116,6 +117,7 @@ QUESTIONS_BY_CODE = {
 }
 OUTSIDE = 19
 IN_REACH = 20
+ENTERS_OUTSIDE = 21
 # end questions
 FIRST_OF_TABLES = 5
 

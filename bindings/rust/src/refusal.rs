@@ -5,13 +5,13 @@ use core::fmt::{self, Display, Formatter};
 
 /// What it means that question 1, 2, .. is answered with no.
 // begin texts: made by tests/tables from tables/questions.ini
-const TEXTS: [&str; 20] = [
+const TEXTS: [&str; 21] = [
     "line file: a number's last byte is missing",
     "line file: a number has more than three bytes, is not in the shortest form, or is above 65,535",
     "line file: a number is out of its field's range",
     "line file: bytes are left over",
     "line file: a card has not exactly one kind 4 object, or a kind 4 object has no card as owner",
-    "line file: a hard-wired value names what it may not",
+    "line file: a hard-wired value names an object that is not its card's, or one of kind 4",
     "the state area has another length than the line needs: 1,728 or, over 96 objects, 3,360 bytes",
     "the answer area has fewer than 128 bytes",
     "the state is not well formed for this line file",
@@ -26,6 +26,7 @@ const TEXTS: [&str; 20] = [
     "a card's transfer is not described by what it reads now",
     "a chain of descriptor writes would lead a card out of its partition",
     "an active card can reach an object that would leave",
+    "with this card brought in, a chain of descriptor writes would lead a card out of its partition",
 ];
 // end texts
 
@@ -92,6 +93,6 @@ mod tests {
             assert_eq!((refusal.number(), refusal.text(), refusal.is_known()), (number, UNKNOWN, false));
         }
         assert_eq!(Refusal::check(0), Ok(()));
-        assert_eq!(Refusal::check(20).map_err(Refusal::text), Err(TEXTS[19]));
+        assert_eq!(Refusal::check(21).map_err(Refusal::text), Err(TEXTS[20]));
     }
 }

@@ -48,6 +48,28 @@ fn sequence_p_has_its_answers_and_a_refusal_changes_nothing() {
     }
 }
 
+/// On file L with value 1 as `1 2 3 3`: card 1 reads and writes its own object 2, and puts value 3 there, which writes
+/// object 5.
+const RING: [(&[u8], u32); 7] = [
+    (&[5, 1], 0),
+    (&[8, 1, 1], 21),
+    (&[9, 1, 1, 5], 0),
+    (&[8, 1, 1], 0),
+    (&[12, 1, 1, 5], 20),
+    (&[11, 1], 0),
+    (&[12, 1, 1, 5], 0),
+];
+
+#[test]
+fn a_card_with_a_ring_comes_in_after_what_its_ring_names() {
+    let (mut line, mut state, mut answer) = (LINE_L, fresh_l(), [0; ANSWER_BYTES]);
+    let [_, mode, put] = &mut line[26..29] else { unreachable!("an entry has three numbers") };
+    (*mode, *put) = (3, 3);
+    for (record, expected) in RING {
+        assert_eq!(number(operate(&line, &mut state, record, &mut answer)), expected, "{record:?}");
+    }
+}
+
 #[test]
 fn each_number_has_a_text_of_its_own() {
     let all: Vec<Refusal> = (1..=Refusal::QUESTIONS).filter_map(Refusal::new).collect();
