@@ -9,6 +9,7 @@ from pathlib import Path
 import sorters
 from common import PROGRAM, ROOT
 from devtools import Browser
+from lines import mailbox_line, mailbox_visit
 from planner import wording as w
 from planner.judged import judge_folder, judge_moves
 from planner.page import page_html
@@ -36,13 +37,14 @@ CHOSEN = "document.querySelector('.stop.chosen').id"
 
 
 def plans():
-    """Plans on lines of 5, 40, 96 and 192 objects, the example, and one with long names, each with a name."""
+    """Plans on lines of 5, 40, 96 and 192 objects, the example, one with rings, one with long names; each named."""
     config, moves = sorters.small()
     yield "small", judge_moves(PROGRAM, config, moves)
     for name, size in (("middle", dict(cards=7, loose=2)), ("large", sorters.LARGE), ("wide", sorters.WIDE)):
         made = sorters.visit(**size)
         yield name, judge_moves(PROGRAM, made.config, made.rows())
     yield "example", judge_folder(PROGRAM, ROOT / "examples" / "visit")
+    yield "rings", judge_moves(PROGRAM, mailbox_line(), mailbox_visit(1, 2))
     config, moves = sorters.small()
     config.drivers[1], config.partitions[1] = "Sortieranlagensteuerung" * 4, "Paketverteilzentrum" * 5
     config.objects[5] = replace(config.objects[5], name="Barcodezuordnungstabelle" * 4)
@@ -150,10 +152,13 @@ class Walk(unittest.TestCase):
         self.at(14)
 
     def test_chains_link_by_link(self):
+        answers = set()
         for name, plan in self.plans.items():
             for step in plan.steps:
-                if step.answer in (w.OUTSIDE, w.IN_REACH):
+                if step.answer in w.BY_CHAIN:
                     self.chain_is_shown(name, plan, step)
+                    answers.add(step.answer)
+        self.assertEqual(answers, set(w.BY_CHAIN))
 
     def chain_is_shown(self, name, plan, step):
         """Each link is named in words, and its two rows and its arrow are lit."""
@@ -163,6 +168,8 @@ class Walk(unittest.TestCase):
         self.assertEqual(self.browser.value(visible), len(links))
         self.assertEqual(self.browser.value("document.querySelectorAll('.arrow').length"),
                          sum(link.kind != "wired" for link in links))
+        shown = self.browser.value("document.getElementById('said').textContent")
+        self.assertEqual(shown.endswith("Shown as it would be after this move."), step.answer in w.AFTERWARDS)
         for place, link in enumerate(links):
             self.browser.press("ArrowDown", shift=True)
             rows = sorted({link.descriptor, link.to} - {0})

@@ -49,6 +49,45 @@ def entries_of(rng, config, values):
         yield Entry(n, mode, rng.randint(0, values) if stores else 0)
 
 
+def ring_line(seed):
+    """A random line whose cards mostly keep rings: their hard-wired values write their own transfer descriptors."""
+    rng, config = random.Random(f"ring {seed}"), random_line(seed)
+    jobs = range(len(config.devices) + 1, len(config.values) + 1)
+    for n in config.devices:
+        entries = [Entry(one.object, rng.randint(w.WRITE, w.BOTH), rng.choice(jobs))
+                   if config.objects[one.object].kind == w.TRANSFER and rng.random() < 0.6 else one
+                   for one in config.values[n].entries]
+        config.values[n] = replace(config.values[n], entries=tuple(entries))
+    return config
+
+
+def ring_visit(config, seed):
+    """A random visit; in every second one cards come in last, behind most of what their rings name."""
+    moves = random_visit(config, seed)
+    up = PARTITIONS + len(config.drivers) + len(config.devices) + len(config.owned(w.EXTERNAL, 0))
+    if seed % 2:
+        moves = sorted(moves[:up], key=lambda move: move.code == 8) + moves[up:]
+    return [replace(move, row=row) for row, move in enumerate(moves, 2)]
+
+
+def mailbox_line():
+    """Two cards with rings: C1's puts a job into an external descriptor, C2's has C2 do what it finds there."""
+    ring_1, ring_2, mailbox, lamp = 2, 4, 5, 6
+    kinds = [(w.HARDCODED, w.DEVICE, 1), (w.TRANSFER, w.DEVICE, 1), (w.HARDCODED, w.DEVICE, 2),
+             (w.TRANSFER, w.DEVICE, 2), (w.TRANSFER, w.EXTERNAL, 0), (w.DATA, w.EXTERNAL, 0)]
+    entries = [Entry(ring_1, w.BOTH, 3), Entry(ring_2, w.BOTH, 4), Entry(mailbox, w.WRITE, 5),
+               Entry(mailbox, w.READ, 0), Entry(lamp, w.WRITE, 0)]
+    return Config({1: "D1"}, {1: Device("C1", 1), 2: Device("C2", 2)},
+                  {n: Object(f"O{n}", *kind) for n, kind in enumerate(kinds, 1)},
+                  {n: Value(f"V{n}", (entry,)) for n, entry in enumerate(entries, 1)})
+
+
+def mailbox_visit(first, second):
+    """The mailbox is brought in, then one card and the other, and then again with the lamp there."""
+    moves = (5, 0, 1, ()), (9, 0, 1, (5,)), (8, first, 1, ()), (8, second, 1, ()), (9, 0, 1, (6,)), (8, second, 1, ())
+    return [Move(row, *move) for row, move in enumerate(moves, 2)]
+
+
 def widened(config, count, seed):
     """The line with external data among its objects, so many that it has `count` in all, its own in the upper third.
 
@@ -67,6 +106,11 @@ def widened(config, count, seed):
 def wide_line(seed):
     """A random line of one of the wide sizes, whose values name objects of the upper third alone."""
     return widened(random_line(seed), WIDE[seed % len(WIDE)], seed)
+
+
+def wide_ring_line(seed):
+    """The same of a random line with rings."""
+    return widened(ring_line(seed), WIDE[seed % len(WIDE)], seed)
 
 
 def largest_line():

@@ -11,7 +11,7 @@ from pathlib import Path
 from unittest import mock
 
 from common import GOLDEN, PROGRAM, ROOT, InFolder, plan
-from lines import random_line, random_visit, wide_line
+from lines import random_line, random_visit, ring_line, wide_line
 from planner import pack
 from planner import wording as w
 from planner.judged import judge_folder
@@ -25,10 +25,10 @@ class Example(InFolder):
         self.same_as_golden("check.txt", text)
 
     def test_words_for_every_question(self):
-        """A visit that runs into each question from 10 on, 19 left to the example."""
+        """A visit that runs into each question from 10 on, 19 left to the example, 21 to test_rings."""
         shutil.copy(GOLDEN / "questions.csv", self.visit / "visit.csv")
         steps = judge_folder(PROGRAM, "examples/visit").steps
-        self.assertEqual(set(range(10, w.IN_REACH + 1)) - {step.answer for step in steps}, {w.OUTSIDE})
+        self.assertEqual(set(w.QUESTIONS) - {step.answer for step in steps}, {*range(1, 10), *w.AFTERWARDS})
         self.same_as_golden("questions.txt", plan("check", "examples/visit")[1])
 
     def test_check_makes_the_stored_files(self):
@@ -121,7 +121,8 @@ class ThereAndBack(InFolder):
         self.assertEqual(Path("alone/session.bin").read_bytes(), b"")
 
     def test_random_lines_and_visits(self):
-        for seed, config in enumerate([*map(random_line, range(60)), *map(wide_line, range(8))]):
+        lines = [*map(random_line, range(60)), *map(wide_line, range(8)), *map(ring_line, range(20))]
+        for seed, config in enumerate(lines):
             here = Path(f"line{seed}")
             here.mkdir()
             files = {"line.bin": pack.line_bytes(config), "session.bin": pack.session_bytes(random_visit(config, seed))}

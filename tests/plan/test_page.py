@@ -20,7 +20,7 @@ from unittest import mock
 
 import sorters
 from common import PROGRAM, ROOT, InFolder, plan
-from lines import random_line, random_visit, wide_line
+from lines import random_line, random_visit, ring_line, wide_line
 from planner import cli
 from planner import wording as w
 from planner.causes import origins
@@ -195,9 +195,10 @@ class Moves(unittest.TestCase):
 
 class States(unittest.TestCase):
     def test_the_data_lead_to_the_books_states(self):
-        """As the script does it: what accepted moves set, one after the other; for 19 what the move would set, too."""
-        lines = [*map(random_line, range(30)), *map(wide_line, range(4))]
+        """As the script does it: what accepted moves set in their order; for 19 and 21 what the move would set, too."""
+        lines = [*map(random_line, range(30)), *map(wide_line, range(4)), *map(ring_line, range(10))]
         plans = [judge_moves(PROGRAM, config, random_visit(config, seed)) for seed, config in enumerate(lines)]
+        self.assertLessEqual(set(w.BY_CHAIN), {step.answer for judged in plans for step in judged.steps})
         shown = 0
         for judged in plans + [example(), judge_folder(PROGRAM, ROOT / "examples" / "today")]:
             shown += States.leads_to_the_book(self, judged)

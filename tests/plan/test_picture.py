@@ -1,10 +1,11 @@
 """Pictures of random refusals are whole: a mark for each link, nothing outside the sheet, large lines folded."""
 import unittest
 import xml.etree.ElementTree as ElementTree
+from collections import Counter
 
 import sorters
 from common import PROGRAM, InFolder, plan
-from lines import random_line, random_visit
+from lines import random_line, random_visit, ring_line, ring_visit
 from planner import wording as w
 from planner.config import Object
 from planner.judged import judge_moves
@@ -19,18 +20,19 @@ SVG = "{http://www.w3.org/2000/svg}"
 
 
 def refusals(seeds):
-    """Judged plans with each of their steps that has a chain."""
-    for seed in seeds:
-        config = random_line(seed)
-        judged = judge_moves(PROGRAM, config, random_visit(config, seed))
-        for step in judged.steps:
-            if step.answer in (w.OUTSIDE, w.IN_REACH):
-                yield judged, step
+    """Judged plans with each of their steps that has a chain, on lines without rings and with them."""
+    for make, visit in ((random_line, random_visit), (ring_line, ring_visit)):
+        for seed in seeds:
+            config = make(seed)
+            judged = judge_moves(PROGRAM, config, visit(config, seed))
+            for step in judged.steps:
+                if step.answer in w.BY_CHAIN:
+                    yield judged, step
 
 
 class Pictures(unittest.TestCase):
     def test_a_mark_for_each_link_and_all_on_the_sheet(self):
-        drawn, ends = 0, set()
+        drawn, ends = Counter(), set()
         for judged, step in refusals(range(40)):
             sheet = ElementTree.fromstring(draw_plan(judged, step))
             links = judged.explained(step)[0].chain
@@ -41,8 +43,8 @@ class Pictures(unittest.TestCase):
             ends.add(links[-1].mode)
             self.assertEqual(len(list(sheet.iter(SVG + "circle"))), 2 * len(links))
             self.on_the_sheet(sheet)
-            drawn += 1
-        self.assertGreater(drawn, 100)
+            drawn[step.answer] += 1
+        self.assertGreater(min(drawn[answer] for answer in w.BY_CHAIN), 30)
         self.assertEqual(ends, set(w.MODES))
 
     def drawn_as_the_legend_says(self, arrows, legend, links):

@@ -4,7 +4,7 @@ import unittest
 from pathlib import Path
 
 from common import PROGRAM, ROOT, InFolder, plan
-from lines import random_line, random_visit, wide_line
+from lines import random_line, random_visit, ring_line, ring_visit, wide_line
 from planner import pack
 from planner import wording as w
 from planner.area import (CARDS_AT, DIGEST_BYTES, DRIVERS_AT, MARK, OBJECTS_AT, RECORD, SMALL_ROOM, area_bytes, digest,
@@ -77,6 +77,17 @@ class BringUps(unittest.TestCase):
             alone += any(state.contents[n] and place and place not in state.drivers.values()
                          for n, place in state.objects.items() if config.objects[n].kind == 1)
         self.assertGreater(min(kept, alone), 5, (kept, alone))
+
+    def test_states_with_rings(self):
+        """Cards with a ring come in behind what it names, whatever their places in the tables are."""
+        last = 0
+        for seed in range(60):
+            config = ring_line(seed)
+            state = judge_moves(PROGRAM, config, ring_visit(config, seed)).last_state()
+            self.assertTrue(comes_back(config, state), f"seed {seed}")
+            codes = [move.code for move in bring_up(config, state).moves if move.code in w.ACTIVATES]
+            last += 8 in codes[codes.index(9):] if 9 in codes else 0
+        self.assertGreater(last, 5)
 
 
 class Today(InFolder):

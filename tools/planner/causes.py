@@ -14,7 +14,7 @@ from .chain import BrokenChain
 from .reach import explained_chain
 
 PARTITION, EMPTY, ACTIVE, PLACE, DESCRIBED = 14, 15, 16, 17, 18
-ON_STATE = (PARTITION, EMPTY, ACTIVE, PLACE, DESCRIBED, w.OUTSIDE, w.IN_REACH)
+ON_STATE = (PARTITION, EMPTY, ACTIVE, PLACE, DESCRIBED, *w.BY_CHAIN)
 # Of the causes, so many of the latest are followed.
 MOST_FOLLOWED = 64
 
@@ -75,7 +75,7 @@ def remaining(config, state, step, failed):
     if number not in ON_STATE or any(failures(config, state, move, one) for one in early):
         return failed
     stays = failures(config, state, move, number)
-    return failed if stays and number in (w.OUTSIDE, w.IN_REACH) else stays
+    return failed if stays and number in w.BY_CHAIN else stays
 
 
 def asked(number, move):
@@ -98,7 +98,7 @@ def failures(config, state, move, number):
     if number == ACTIVE and move.actor != w.NOBODY:
         bad = (state.actor(move.actor, move.who) != NONE) == (move.code in w.ACTIVATES)
         return frozenset([((move.actor, move.who),)] if bad else [])
-    if number in (w.OUTSIDE, w.IN_REACH):
+    if number in w.BY_CHAIN:
         return chain_failure(config, state, move)
     return frozenset(tuple(finding.things) for finding in reasons.find(config, state, move, number))
 

@@ -1,4 +1,4 @@
-"""A chain of links from hardcoded descriptors to the entry behind an answer 19 or 20, and its independent check."""
+"""A chain of links from hardcoded descriptors to the entry behind an answer 19 to 21, and its independent check."""
 from dataclasses import dataclass
 
 from . import wording as w

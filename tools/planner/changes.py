@@ -6,6 +6,7 @@ from dataclasses import dataclass, replace
 
 from . import wording as w
 from .book import NONE
+from .reach import missing
 from .visit import Item, Move, move_words
 
 FURTHER = 4
@@ -103,8 +104,9 @@ def additions(config, step, chain, change):
     maker = makers.get(step.answer)
     for before, after, text in maker(config, step) if maker else ():
         yield around(change, config, target, before, after, text)
-    for before, after, text in (*clear_first(config, step, chain), *away_meanwhile(config, step, chain)):
-        yield around(change, config, target, before, after, text)
+    for by_chain in (bring_first, clear_first, away_meanwhile):
+        for before, after, text in by_chain(config, step, chain):
+            yield around(change, config, target, before, after, text)
 
 
 def create_first(config, step):
@@ -158,8 +160,7 @@ def bring_together(config, step):
         return
     home, before, after = state.actor(w.DRIVER, move.who), [], []
     for n in dict.fromkeys(move.named()):
-        one = config.objects[n]
-        owner = (w.EXTERNAL, n) if one.owner_class == w.EXTERNAL else (one.owner_class, one.owner)
+        owner = config.holder(n)
         if state.objects[n] == home or any(made.who == owner[1] and made.actor == owner[0] for made in before):
             continue
         if owner[0] == w.DRIVER:
@@ -172,6 +173,14 @@ def bring_together(config, step):
     yield before, [], "what it names brought in first"
     if after:
         yield before, after, "what it names brought in first, and back"
+
+
+def bring_first(config, step, chain):
+    """Whatever the chain of a card that may not come in yet ends at comes in first, out of where it is if need be."""
+    owner, home = missing(config, step.before, step.move, chain) if chain else (None, NONE)
+    if owner:
+        out = [move_out(step.before, *owner)] if step.before.objects[chain[-1].to] != NONE else []
+        yield out + [move_in(*owner, home)], [], "what its chain ends at brought in first"
 
 
 def driver_in(state, where):

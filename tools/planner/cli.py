@@ -31,7 +31,7 @@ STATUSES = """exit statuses:
   2  the command is not typed as it should be, or a file or the output cannot be read or written
   3  a table is at fault; file, row and column are named
   4  the office program is not to be had or failed, or its answers are not whole
-  5  an answer 19 or 20 could not be explained by a chain that holds
+  5  an answer 19, 20 or 21 could not be explained by a chain that holds
   130  stopped by Ctrl-C"""
 
 
@@ -87,7 +87,7 @@ def parser():
             ("new", run_new, ("DIR",), "make empty tables in a folder"),
             ("start", run_start, ("DIR", "AREA", "--replace"), "make bringup.csv from a state area of a controller"),
             ("check", run_check, ("DIR",), "make line.bin and session.bin and judge every move"),
-            ("explain", run_explain, ("DIR", "SPOT"), "say why a row is refused, for 19 and 20 link by link"),
+            ("explain", run_explain, ("DIR", "SPOT"), "say why a row is refused, for 19 to 21 link by link"),
             ("repair", run_repair, ("DIR", "[ROW]", "--write", "--most"),
              "find small changes after which a row is accepted"),
             ("picture", run_picture, ("DIR", "[WHICH..]"), "draw the partitions after the visit, or at rows"),

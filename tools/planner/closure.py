@@ -1,4 +1,4 @@
-"""The closure of descriptor writes (document 01: reach), searched for the shortest explanation of an answer 19 or 20.
+"""The closure of descriptor writes (document 01: reach), searched for the shortest explanation of an answer 19 to 21.
 
 The program has judged already; what is found here is shown only after chain.confirm has checked it link by link.
 """
@@ -97,13 +97,39 @@ class Closure:
         return None
 
 
-def outside_chain(config, state):
-    """For 19: a chain to an entry outside, in the state that would follow."""
+def outside_chain(config, state, entering=0):
+    """For 19 and 21: a chain to an entry outside, in the state that would follow.
+
+    Where a device enters the chain begins there, or, if that is no part of it, at the device that crosses.
+    """
     def crosses(device, entry):
         hard = config.objects[entry.object].kind == w.HARDCODED
         return hard or state.objects[entry.object] != state.devices[device]
 
-    return Closure(config, state).shortest(crosses, "outside")
+    links = Closure(config, state).shortest(crosses, "outside")
+    if not links or not entering:
+        return links
+    return beginning_at(links, entering if any(link.device == entering for link in links) else links[-1].device)
+
+
+def beginning_at(links, device):
+    """A chain with all that rests on one device's hardcoded descriptor alone put first, each part in its order."""
+    awaited = {(link.to, link.stored) for link in links if link.kind == "puts"}
+    read, first = set(), []
+    for link in links:
+        wired = link.kind == "wired" and link.device == device
+        if not wired and (link.device, link.descriptor, link.value) not in read:
+            continue
+        if link.kind == "reads" and (link.to, link.stored) in awaited:
+            continue
+        first.append(link)
+        if wired:
+            read.add((device, link.descriptor, link.value))
+        elif link.kind == "reads":
+            read.add((link.device, link.to, link.stored))
+        elif link.kind == "puts":
+            awaited.discard((link.to, link.stored))
+    return first + [link for link in links if link not in first]
 
 
 def leaving_chain(config, state, leaving, gone):

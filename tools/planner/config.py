@@ -63,6 +63,11 @@ class Config:
         """The objects that a driver or device owns."""
         return [n for n, one in self.objects.items() if (one.owner_class, one.owner) == (owner_class, owner)]
 
+    def holder(self, number):
+        """With whom an object comes and goes: its owner's class and number, or an external object's own number."""
+        one = self.objects[number]
+        return (one.owner_class, number if one.owner_class == w.EXTERNAL else one.owner)
+
     def hardcoded_object(self, device):
         """The device's hardcoded descriptor."""
         return next(n for n in self.owned(w.DEVICE, device) if self.objects[n].kind == w.HARDCODED)

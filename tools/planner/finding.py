@@ -1,4 +1,4 @@
-"""A finding: a clause that says on what a move failed, the things it is about, and for 19 and 20 the chain."""
+"""A finding: a clause that says on what a move failed, the things it is about, and for 19 to 21 the chain."""
 from dataclasses import dataclass, field
 
 

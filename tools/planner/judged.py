@@ -50,7 +50,7 @@ class Plan:
         return [step for step in self.steps[:self.first] if not step.accepted]
 
     def explained(self, step):
-        """On what a move failed; BrokenChain if a 19 or 20 cannot be explained by a chain that holds."""
+        """On what a move failed; BrokenChain if a 19, 20 or 21 cannot be explained by a chain that holds."""
         return [] if step.accepted else reasons.find(self.config, step.before, step.move, step.answer)
 
     def findings(self, step):

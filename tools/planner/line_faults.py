@@ -38,7 +38,4 @@ def hardcoded_values(config):
                 found.append(f"{what} {config.describe(entry.object)}, which is not this card's")
             elif one.kind == w.HARDCODED:
                 found.append(f"{what} the hard-wired descriptor {one.name}")
-            elif one.kind == w.TRANSFER and entry.mode != w.READ:
-                mode = w.MODES[entry.mode]
-                found.append(f"{what} the transfer descriptor {one.name} by '{mode}'; only 'read' may be")
     return found

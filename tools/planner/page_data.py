@@ -60,11 +60,11 @@ def contents(config, number, state):
 
 
 def step_data(plan, step, words):
-    """A move: what it sets, or for a refusal by 19 would set; what it reads; what it failed on; the chain."""
+    """A move: what it sets, or for a refusal by 19 or 21 would set; what it reads; what it failed on; the chain."""
     config = plan.config
     findings = plan.findings(step)
     chain = next((finding.chain for finding in findings if finding.chain), ())
-    after = searched_state(config, step.before, step.move) if step.answer == w.OUTSIDE and chain else step.after
+    after = searched_state(config, step.before, step.move) if step.answer in w.AFTERWARDS and chain else step.after
     data = {"answer": step.answer, "set": settings(config, step.before, after, words, step.move.stored_to())}
     if step.accepted and step.move.code in w.READS:
         data["read"] = [pair.source for pair in step.move.what]

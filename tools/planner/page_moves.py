@@ -4,7 +4,7 @@ from html import escape
 from . import wording as w
 from .page_data import stop_key, stops
 from .reach import chain_sentences
-from .report import plural, rests_on, sentence
+from .report import chain_when, plural, sentence, ways_out
 from .timeline import NOWHERE, bare_name, not_back, tracks
 from .visit import move_words
 
@@ -69,12 +69,10 @@ def why_html(plan, step):
 
 def chain_html(plan, step, links):
     """The chain in sentences, each a button that lights its link."""
-    when = "in the state that would follow this move" if step.answer == w.OUTSIDE else "in the state before this move"
     items = [element("li", element("button", escape(text), type="button", class_="link", tabindex="-1"))
              for text in chain_sentences(plan.config, step.before, step.move, links)]
-    rests = rests_on(plan.config, step, links)
-    after = f"It rests on what {escape(rests)} now: change that first, and this chain is broken." if rests else ""
-    head = element("p", f"The chain, {when}:", class_="chain-head")
+    after = escape(" ".join(ways_out(plan.config, step, links)))
+    head = element("p", f"The chain, {chain_when(step)}:", class_="chain-head")
     return [element("div", head + element("ol", "".join(items)) + element("p", after), class_="chain")]
 
 

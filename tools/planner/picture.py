@@ -67,7 +67,7 @@ def shown_state(plan, step):
         return plan.last_state()
     if step.accepted:
         return step.after
-    return searched_state(plan.config, step.before, step.move) if step.answer == w.OUTSIDE else step.before
+    return searched_state(plan.config, step.before, step.move) if step.answer in w.AFTERWARDS else step.before
 
 
 def marked(plan, step, findings, chain):

@@ -1,21 +1,22 @@
-"""Answers 19 and 20 explained: the chain is searched, checked link by link, and only then handed on."""
+"""Answers 19 to 21 explained: the chain is searched, checked link by link, and only then handed on."""
 from . import wording as w
-from .book import concerned, follow
+from .book import NONE, concerned, follow
 from .chain import BrokenChain, confirm, link_words
 from .closure import leaving_chain, outside_chain
 from .finding import Finding, place
 
 
 def searched_state(config, state, move):
-    """The state that the question was put on: for a write or copy the one that would follow, else the one before."""
-    return follow(config, state, move) if move.code in w.WRITES | w.READS else state
+    """The state that the question was put on: the one before for what leaves, else the one that would follow."""
+    return state if move.code in w.DEACTIVATES else follow(config, state, move)
 
 
 def explained_chain(config, state, move):
-    """The checked chain behind a 19 or 20. BrokenChain if there is none that holds."""
+    """The checked chain behind a 19, 20 or 21. BrokenChain if there is none that holds."""
     there = searched_state(config, state, move)
-    if move.code in w.WRITES | w.READS:
-        links = outside_chain(config, there)
+    if move.code not in w.DEACTIVATES:
+        entering = move.who if move.code in w.ACTIVATES and move.actor == w.DEVICE else 0
+        links = outside_chain(config, there, entering)
         leaving, gone = (), 0
     else:
         leaving = tuple(concerned(config, move))
@@ -25,6 +26,15 @@ def explained_chain(config, state, move):
         raise BrokenChain("no chain was found that explains the program's answer")
     confirm(config, there, links, leaving, gone)
     return tuple(links)
+
+
+def missing(config, state, move, links):
+    """What would have to be in, and where, for a chain of 21 to stay inside there; nothing where that is of no use."""
+    last = links[-1]
+    owner, hard = config.holder(last.to), config.objects[last.to].kind == w.HARDCODED
+    if move.code not in w.ACTIVATES or hard or owner == (move.actor, move.who):
+        return None, NONE
+    return owner, searched_state(config, state, move).devices[last.device]
 
 
 def chain_sentences(config, state, move, links):
@@ -44,6 +54,7 @@ def reach_findings(config, state, move):
     elif config.objects[last.to].kind == w.HARDCODED:
         end = "a hard-wired descriptor"
     else:
-        end = f"which is {place(config, there.objects[last.to])}, while card {card} is in {home}"
+        stands = "is" if state.devices[last.device] == there.devices[last.device] else "would be"
+        end = f"which is {place(config, there.objects[last.to])}, while card {card} {stands} in {home}"
     text = f"card {card} could {verb} {config.describe(last.to)}, {end}: a chain of {len(links)} links"
     return [Finding(text, [("object", last.to), (w.DEVICE, last.device)], links)]

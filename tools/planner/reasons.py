@@ -175,4 +175,4 @@ def transfers(config, state, move):
 
 
 REASONS = {10: unreadable, 11: unknown, 12: twice, 13: kinds, 14: partition_use, 15: occupied, 16: activity,
-           17: elsewhere, 18: undescribed, w.OUTSIDE: reach_findings, w.IN_REACH: reach_findings}
+           17: elsewhere, 18: undescribed, **dict.fromkeys(w.BY_CHAIN, reach_findings)}

@@ -5,7 +5,7 @@ import textwrap
 from . import wording as w
 from .fingerprint import fingerprint
 from .line_faults import line_findings
-from .reach import chain_sentences
+from .reach import chain_sentences, missing
 from .visit import BRINGUP, move_words
 
 WIDTH = 110
@@ -103,7 +103,7 @@ def refusal_lines(plan, step, command, margin):
 
 
 def explain_lines(plan, step):
-    """The explanation of one row: for 19 and 20 the chain link by link."""
+    """The explanation of one row: for 19 to 21 the chain link by link."""
     head = wrap(move_words(plan.config, step.move), f"{sentence(step.move.spot)[:-1]} (move {step.place}): ", "    ")
     if step.accepted:
         return head + ["Accepted: every question is answered yes."]
@@ -115,16 +115,29 @@ def explain_lines(plan, step):
     return lines
 
 
+def chain_when(step):
+    """On which state a question about chains is put."""
+    return f"in the state {'that would follow' if step.answer in w.AFTERWARDS else 'before'} this move"
+
+
 def chain_lines(plan, step, links):
-    then = "The chain, in the state that would follow this move:" if step.answer == w.OUTSIDE else \
-        "The chain, in the state before this move:"
-    lines = [then]
+    lines = [f"The chain, {chain_when(step)}:"]
     for number, text in enumerate(chain_sentences(plan.config, step.before, step.move, links), 1):
         lines += wrap(text, f"{number:>4}. ", " " * 6)
-    rests = rests_on(plan.config, step, links)
-    if rests:
-        lines += wrap(f"It rests on what {rests} now: change that first, and this chain is broken.", "", "")
+    for text in ways_out(plan.config, step, links):
+        lines += wrap(text, "", "")
     return lines + ["Each link was checked against the tables and the moves accepted so far."]
+
+
+def ways_out(config, step, links):
+    """What would have the chain broken, or inside, in sentences."""
+    rests = rests_on(config, step, links)
+    told = [f"It rests on what {rests} now: change that first, and this chain is broken."] if rests else []
+    owner, home = missing(config, step.before, step.move, links)
+    if owner:
+        name = config.object(owner[1]) if owner[0] == w.EXTERNAL else config.actor(*owner)
+        told.append(f"Bring {name} into {config.partition(home)} first, and this chain stays inside.")
+    return told
 
 
 def rests_on(config, step, links):

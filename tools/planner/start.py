@@ -1,13 +1,13 @@
 """A bring-up: moves by which a fresh state becomes a given one. It judges nothing; the program judges the moves.
 
 First what is in no partition and still holds something: it is brought in with all that its contents lead to, written,
-and taken out. Then what is in partitions: brought in with everything cleared, and written by a driver that is there,
-or, where none is, by one that comes for it and leaves. In between, descriptors are cleared or hold what they are to
-hold, so that no chain comes about that the given state has not.
+and taken out. Then what is in partitions: brought in with everything cleared, cards with a ring after what that names,
+and written by a driver that is there, or, where none is, by one that comes for it and leaves. In between, descriptors
+are cleared or hold what they are to hold, so that no chain comes about that the given state has not.
 """
 from . import wording as w
 from .book import NONE, follow, fresh
-from .closure import Closure
+from .closure import Closure, outside_chain
 from .visit import Item, Move
 
 CREATE, DESTROY = (min(codes) for codes in (w.CREATES, w.DESTROYS))
@@ -61,12 +61,26 @@ class BringUp:
             if self.place(self.now, holder) not in (NONE, where):
                 self.leave(holder)
         absent = [holder for holder in holders if self.place(self.now, holder) == NONE]
-        for holder in absent:
-            if holder[0] != w.EXTERNAL:
-                self.enter(holder, where, note)
+        late = self.enter_freely([holder for holder in absent if holder[0] != w.EXTERNAL], where, note)
         loose, most = [n for owner_class, n in absent if owner_class == w.EXTERNAL], w.LIMITS["items of a move"]
         for at in range(0, len(loose), most):
             self.add(code_for("activate", w.EXTERNAL), 0, where, loose[at:at + most], note)
+        while late:
+            left = self.enter_freely(late, where, note)
+            if left == late:
+                self.enter(left.pop(0), where, note)
+            late = left
+
+    def enter_freely(self, holders, where, note):
+        """Brings in drivers and cards, but for cards whose rings name what is not there yet; these are returned."""
+        late = []
+        for holder in holders:
+            entered = follow(self.config, self.now, Move(0, code_for("activate", holder[0]), holder[1], where))
+            if holder[0] == w.DEVICE and outside_chain(self.config, entered):
+                late.append(holder)
+            else:
+                self.enter(holder, where, note)
+        return late
 
     def write(self, driver, numbers, note=""):
         """Has a driver write what objects are to hold."""
@@ -123,8 +137,7 @@ def named_with(made, holder, room):
         state.contents.update({n: made.goal.contents[n] for n in made.objects(holder)})
         for _, _, value in Closure(config, state).reads:
             for entry in config.entries(value):
-                one = config.objects[entry.object]
-                owner = (w.EXTERNAL, entry.object) if one.owner_class == w.EXTERNAL else (one.owner_class, one.owner)
+                owner = config.holder(entry.object)
                 inside += [owner] if owner not in inside else []
     return inside
 

@@ -119,6 +119,9 @@ OUTSIDE = 19
 IN_REACH = 20
 ENTERS_OUTSIDE = 21
 # end questions
+# The questions that are answered with no for a chain of descriptor writes; those put on the state that would follow.
+BY_CHAIN = (OUTSIDE, IN_REACH, ENTERS_OUTSIDE)
+AFTERWARDS = (OUTSIDE, ENTERS_OUTSIDE)
 FIRST_OF_TABLES = 5
 
 

@@ -1,6 +1,6 @@
 // The plan's data, and the states that its moves lead to. Nothing here judges: an accepted move's settings are applied.
 const data = JSON.parse(document.getElementById("data").textContent);
-const ACCEPTED = 0, OUTSIDE = 19;
+const ACCEPTED = 0, AFTERWARDS = [19, 21];
 const EXTERNAL = 0, DRIVER = 1, CARD = 2;
 const KINDS = ["", "T", "F", "D", "H"];
 const KIND_WORDS = ["", "transfer descriptor", "function descriptor", "data", "hard-wired descriptor"];
@@ -29,8 +29,8 @@ function placeWords(partition) {
   return partition ? data.partitions[partition] : "no partition";
 }
 
-// What is shown at a stop: the state, and what is lit in it, with a note for each. A refusal by 19 is shown as it would
-// be after the move, every other refusal as things stand before it.
+// What is shown at a stop: the state, and what is lit in it, with a note for each. A refusal by 19 or 21 is shown as
+// it would be after the move, every other refusal as things stand before it.
 function sceneAt(stop) {
   if (stop.step === null) return { state: stateAfter(stop.done), lit: new Map(), step: null };
   const step = data.steps[stop.step], before = stateAfter(stop.step), state = stateAfter(stop.step);

@@ -59,7 +59,7 @@ function say() {
     : "Before the visit";
   $("said").textContent = step === null ? items[now].querySelector(".words").textContent + "."
     : step.answer === ACCEPTED ? "Accepted. Shown as things stand after this move."
-      : step.answer === OUTSIDE && step.chain ? "Refused. Shown as it would be after this move."
+      : AFTERWARDS.includes(step.answer) && step.chain ? "Refused. Shown as it would be after this move."
         : "Refused, so nothing changes. Shown as things stand.";
   $("state").classList.toggle("is-refused", step !== null && step.answer !== ACCEPTED);
   const focus = document.activeElement;
