@@ -2,7 +2,7 @@
 // them. Half of the calls go on from a fresh state, as a controller's do; the others are made on random areas that are
 // well formed, whose descriptors lead further. Lines of at most 96 objects and wider ones are two kinds, and each kind
 // gets state areas of both lengths. For each kind every number must be answered, and every code accepted and refused by
-// each of the questions that are put to it alone (18 to 20), a line rewritten and its state area's length told with
+// each of the questions that are put to it alone (18 to 21), a line rewritten and its state area's length told with
 // each kind of answer, and an area of the other kind's length refused by 7; the first bad record of an area must be an
 // object's, an absent one's, and none, where question 9 is answered with yes and where it is not; and of eight calls at
 // least one has a wide line. Otherwise nothing was compared.
@@ -18,7 +18,7 @@
 #include "plain/plain.h"
 #include "sorter_gate.h"
 
-enum { NUMBERS = 21, CODES = 13, KINDS = 3, SESSION = 64, ROOM = 4096, WIDE_IN = 8 };
+enum { NUMBERS = 22, CODES = 13, KINDS = 3, SESSION = 64, ROOM = 4096, WIDE_IN = 8 };
 // The bytes of a state area before its records.
 enum { HEAD_BYTES = MOST_PARTITION + 1 + 2 * MOST_OWNERS };
 enum call { LOAD_CHECK, FRESH, OPERATE, REWRITE, STATE_LENGTH, FIRST_BAD };
@@ -277,6 +277,7 @@ static void demand_codes(const struct met *met, const char *lines) {
     for (unsigned code = 10; code <= 12; code++) {
         demand(met->answered[code][20], lines, "20 for code", code);
     }
+    demand(met->answered[8][21], lines, "21 for code", 8);
 }
 
 static void demand_all(const struct met *met, const char *lines) {

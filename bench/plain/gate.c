@@ -121,7 +121,7 @@ void carry_out(const struct line *line, uint8_t *state, const struct operation *
     }
 }
 
-// Questions 18 to 20: the first that is answered with no, or 0.
+// Questions 18 to 21: the first that is answered with no, or 0.
 static uint32_t ask_reach(const struct line *line, uint8_t *state, const struct operation *operation) {
     switch (operation->code) {
     case CARD_WRITE:
@@ -134,6 +134,8 @@ static uint32_t ask_reach(const struct line *line, uint8_t *state, const struct 
     case CARD_OUT:
     case OBJECTS_OUT:
         return may_leave(line, state, operation) ? 0 : 20;
+    case CARD_IN:
+        return enters_inside(line, state, operation) ? 0 : 21;
     default:
         return 0;
     }

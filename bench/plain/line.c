@@ -251,8 +251,7 @@ static bool restrained(const struct line *line) {
         const struct entry *entry = line->entries[value], *end = entry + line->count[value];
         for (; entry < end; entry++) {
             uint32_t object = entry->object, kind = line->kind[object];
-            if (line->class[object] != BY_CARD || line->owner[object] != card || kind == HARDWIRED ||
-                (kind == TRANSFER && entry->mode != READ)) {
+            if (line->class[object] != BY_CARD || line->owner[object] != card || kind == HARDWIRED) {
                 return false;
             }
         }

@@ -120,6 +120,9 @@ bool stays_inside(const struct line *line, uint8_t *state, const struct operatio
 // Question 20, for codes 10 to 12.
 bool may_leave(const struct line *line, const uint8_t *state, const struct operation *operation);
 
+// Question 21, for code 8: asked of the state that would follow. The state is as it was when this returns.
+bool enters_inside(const struct line *line, uint8_t *state, const struct operation *operation);
+
 // What an accepted operation does to the areas.
 void carry_out(const struct line *line, uint8_t *state, const struct operation *operation, uint8_t *answer);
 

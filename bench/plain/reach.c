@@ -1,9 +1,9 @@
-// Questions 18 to 20: what cards read now, and what they can come to read and name.
+// Questions 18 to 21: what cards read now, and what they can come to read and name.
 //
-// For questions 19 and 20 cards are put into groups whose cards the question does not tell apart: by partition for 19,
-// the leaving card and the others for 20. What a value lets a card do depends on the value alone, so that a group
-// visits a value once. In 19 there is then one visit for each value, since a second group would find its entries
-// outside.
+// For questions 19 to 21 cards are put into groups whose cards the question does not tell apart: by partition for 19
+// and 21, the leaving card and the others for 20. What a value lets a card do depends on the value alone, so that a
+// group visits a value once. In 19 and 21 there is then one visit for each value, since a second group would find its
+// entries outside.
 #include "parts.h"
 
 enum { MOST_GROUPS = MOST_CARDS };
@@ -20,7 +20,7 @@ struct search {
     uint64_t put[MOST_OBJECTS + 1];      // value numbers that can be put into an object
     uint16_t readers[MOST_OBJECTS + 1];  // groups that read an object
     uint8_t concerned[MOST_OBJECTS + 1]; // for 20: whether the object is to leave
-    uint8_t group_in[PARTITIONS];        // for 19: the group of a partition, from 1
+    uint8_t group_in[PARTITIONS];        // for 19, 21: the group of a partition, from 1
 };
 
 static inline bool is_descriptor(uint32_t kind) {
@@ -40,7 +40,7 @@ static void tell_readers(struct search *search, uint32_t groups, uint64_t value)
     }
 }
 
-// Whether a group must not name an object; the question is 19 if `outside`, and otherwise 20.
+// Whether a group must not name an object; the question is 19 or 21 if `outside`, and otherwise 20.
 static inline bool stops(const struct search *search, uint32_t group, uint32_t object, uint32_t kind, bool outside) {
     if (!outside) {
         return group == OTHERS && search->concerned[object];
@@ -150,6 +150,31 @@ bool stays_inside(const struct line *line, uint8_t *state, const struct operatio
     for (uint32_t i = 0; i < places; i++) {
         state[at[i]] = before[i];
     }
+    return inside;
+}
+
+// The card and its objects come in, and its transfer descriptors are cleared; the search looks at no other contents.
+// Then all goes back: what an inactive card owns is in no partition.
+bool enters_inside(const struct line *line, uint8_t *state, const struct operation *operation) {
+    uint8_t *card = state + owner_at(BY_CARD, operation->owner), before[MOST_OBJECTS + 1];
+    *card = (uint8_t)operation->partition;
+    for (uint32_t object = 1; object <= line->objects; object++) {
+        if (line->class[object] == BY_CARD && line->owner[object] == operation->owner) {
+            uint8_t *record = state + record_at(object);
+            before[object] = record[1];
+            record[0] = *card;
+            record[1] = line->kind[object] == TRANSFER ? 0 : record[1];
+        }
+    }
+    bool inside = nothing_outside(line, state);
+    for (uint32_t object = 1; object <= line->objects; object++) {
+        if (line->class[object] == BY_CARD && line->owner[object] == operation->owner) {
+            uint8_t *record = state + record_at(object);
+            record[0] = 0;
+            record[1] = before[object];
+        }
+    }
+    *card = 0;
     return inside;
 }
 

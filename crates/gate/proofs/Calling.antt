@@ -3,7 +3,7 @@
 use Prim.Native.Nat.{ℕ, zero, suc, _≤_, _<_}
 use mathlib.Core.Path.{_≡_, refl, sym, ap, _∙_}
 use mathlib.Core.List.{List}
-use mathlib.Core.Bool.{Bool, true, false, _||_, true≢false}
+use mathlib.Core.Bool.{Bool, true, false, cond, _&&_, _||_, true≢false}
 use native.Mathlib.Omega.{arith}
 use lib.ListN.{length}
 use lib.Dec.{eqb}
@@ -165,21 +165,25 @@ module _ (config : Config) (b : State) (op : Operation) {q : ℕ}
       unfolding rest
       no-18 h = sym (by-rest ∙ rw (← e₁₈, h))
 
-      module _ (y₁₈ : t₁₈ ≡ true) {t₁₉ : Bool} (e₁₉ : t₁₉ ≡ q19 config b op f a) where
-        pub no-19 : t₁₉ ≡ false → 19 ≡ judged config op b
+      module _ (y₁₈ : t₁₈ ≡ true) {tₙ : Bool} (eₙ : tₙ ≡ (q19 config b op f a && q21 config b op f a)) where
+        -- 20 is not put where 19 or 21 is
+        pub no-next : tₙ ≡ false → {n : ℕ} → n ≡ cond (enters f a) 21 19 → n ≡ judged config op b
         unfolding rest
-        no-19 h = sym (by-rest ∙ rw (← e₁₈, y₁₈, ← e₁₉, h))
+        no-next h k =
+            k ∙ sym (by-rest ∙ rw (← e₁₈, y₁₈) (Asking.next-number config b op f a (sym eₙ ∙ h)))
 
-        module _ (y₁₉ : t₁₉ ≡ true) {t₂₀ : Bool} (e₂₀ : t₂₀ ≡ q20 config b op f a) where
-          pub no-20 : t₂₀ ≡ false → 20 ≡ judged config op b
+        module _ (yₙ : tₙ ≡ true) where
+          yes : (q19 config b op f a ≡ true) × (q21 config b op f a ≡ true)
+          yes = Asking.both-yes (q19 config b op f a) (q21 config b op f a) (sym eₙ ∙ yₙ)
+
+          pub no-20 : {t₂₀ : Bool} → t₂₀ ≡ q20 config b op f a → t₂₀ ≡ false → 20 ≡ judged config op b
           unfolding rest
-          no-20 h = sym (by-rest ∙ rw (← e₁₈, y₁₈, ← e₁₉, y₁₉, ← e₂₀, h))
+          no-20 e₂₀ h = sym (by-rest ∙ rw (← e₁₈, y₁₈, yes .0, ← e₂₀, h))
 
-          module _ (y₂₀ : t₂₀ ≡ true) {t₂₁ : Bool} (e₂₁ : t₂₁ ≡ q21 config b op f a) where
-            pub no-21 : t₂₁ ≡ false → 21 ≡ judged config op b
-            unfolding rest
-            no-21 h = sym (by-rest ∙ rw (← e₁₈, y₁₈, ← e₁₉, y₁₉, ← e₂₀, y₂₀, ← e₂₁, h))
+          pub all-yes : {t₂₀ : Bool} → t₂₀ ≡ q20 config b op f a → t₂₀ ≡ true → 0 ≡ judged config op b
+          unfolding rest
+          all-yes e₂₀ h = sym (by-rest ∙ rw (← e₁₈, y₁₈, yes .0, ← e₂₀, h, yes .1))
 
-            pub all-yes : t₂₁ ≡ true → 0 ≡ judged config op b
-            unfolding rest
-            all-yes h = sym (by-rest ∙ rw (← e₁₈, y₁₈, ← e₁₉, y₁₉, ← e₂₀, y₂₀, ← e₂₁, h))
+          -- a code that 20 is not about
+          pub stays : {t : Bool} → t ≡ leaves f → t ≡ false → 0 ≡ judged config op b
+          stays k h = all-yes (Asking.q20-free config b op f a (sym k ∙ h)) refl

@@ -2,7 +2,7 @@
 // object records the state area has.
 ghost use mathlib.Core.Path.{_≡_};
 ghost use Prim.Native.Nat.{_≤_};
-ghost use mathlib.Core.Bool.{_||_};
+ghost use mathlib.Core.Bool.{cond, _||_};
 ghost use Rattle.model.specs.Config.{mostObjects};
 ghost use Rattle.model.specs.State.{view};
 ghost use Rattle.model.specs.Gate.{judged};
@@ -18,11 +18,10 @@ use model::Operation;
 use operation::codes::actor_of;
 use operation::codes::family_of;
 use operation::read_operation;
-use searches::entering::enters_confined;
-use searches::entering::is_entering;
 use searches::leaving::is_leaving;
 use searches::leaving::stays_unnamed;
-use searches::next::stays_confined;
+use searches::next::follows_confined;
+use searches::next::is_entering;
 use searches::transfers::are_described;
 use searches::transfers::is_storing;
 use state::formed::is_formed;
@@ -33,6 +32,13 @@ fn is_searched(f: Family, a: Actor) -> bool
     ensures { λ r. ⌜ r ≡ (stores f || leaves f || enters f a) ⌝ }
 {
     is_storing(f) | is_leaving(f) | is_entering(f, a)
+}
+
+// The question by which an operation is refused for the state that would follow.
+fn next_number(f: Family, a: Actor) -> u8
+    ensures { λ r. ⌜ r ≡ cond (enters f a) 21 19 ⌝ }
+{
+    if is_entering(f, a) { 21 } else { 19 }
 }
 
 // The number of the first of the questions 11 to 21 that is answered with no, or 0.
@@ -60,16 +66,17 @@ fn judge_all(config: Config, area: &[u8], room: usize, op: Operation) -> u8
     if !are_described(config, area, room, op, f, a) {
         return 18;
     }
-    if !stays_confined(config, area, room, op, f, a) {
-        return 19;
+    if !follows_confined(config, area, room, op, f, a) {
+        return next_number(f, a);
     }
-    if !stays_unnamed(config, area, room, op, f, a) {
-        return 20;
+    // What 20 is not about goes no further: a call of it would copy the configuration.
+    if !is_leaving(f) {
+        return 0;
     }
-    if enters_confined(config, area, room, op, f, a) {
+    if stays_unnamed(config, area, room, op, f, a) {
         0
     } else {
-        21
+        20
     }
 }
 

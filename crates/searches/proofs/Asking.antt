@@ -2,7 +2,7 @@
 use Prim.Native.Nat.{ℕ, zero, suc}
 use mathlib.Core.Path.{_≡_, refl, sym, ap, _∙_, subst}
 use mathlib.Core.List.{List}
-use mathlib.Core.Bool.{Bool, true, false, true≢false, false≢true}
+use mathlib.Core.Bool.{Bool, true, false, cond, _&&_, true≢false, false≢true}
 use lib.ListN.{getD}
 use lib.Dec.{eqb}
 use borrow.Author.Tests.{eq-eqb, ne-eqb}
@@ -11,7 +11,7 @@ use Rattle.model.specs.State.{State, held, view, layout}
 use Rattle.model.specs.Operation.{objectAt, secondAt}
 use Rattle.model.specs.Effect.{apply, concerned}
 use Rattle.model.specs.Closure.{confined, unnamed, described}
-use Rattle.model.specs.Questions.{readEntry, writeEntry, transfer, q18, q19, q20, q21, itself}
+use Rattle.model.specs.Questions.{readEntry, writeEntry, transfer, q18, q19, q20, q21, itself, ask}
 use Rattle.model.specs.Gate.{applied}
 use Rattle.model.specs.declared.Family.{Family}
 use Rattle.model.specs.declared.Family.the-variants.{Write, Copy, Create, Destroy, Activate, Deactivate}
@@ -21,7 +21,7 @@ use Rattle.model.specs.declared.Config.{Config}
 use Rattle.model.specs.declared.Operation.{Operation}
 use Rattle.questions.specs.Items.{allBelow}
 use Rattle.searches.specs.Ready.{Searchable, Ready, Asked}
-use Rattle.searches.specs.Asking.{stores, leaves, byDevice, enters, pairDescribed, transferOf, itemDescribed, Marks}
+use Rattle.searches.specs.Asking.{stores, leaves, byDevice, activates, enters, follows, pairDescribed, transferOf, itemDescribed, Marks}
 use Rattle.searches.proofs.Readying
 
 -- only a deactivation leaves
@@ -129,7 +129,7 @@ module _ (config : Config) (b : State) (op : Operation) where
       e ∙ below-same (op .count) (itemDescribed config b op f) (transfer config b op f) (same f)
   q18-items f External h e = absurd (false≢true h)
 
-  -- question 19
+  -- questions 19 and 21: an operation is put to one of them at most
   pub q19-device : (f : Family) (a : Actor) → byDevice a ≡ true → true ≡ q19 config b op f a
   unfolding q19
   q19-device f Driver h = absurd (false≢true h)
@@ -150,19 +150,59 @@ module _ (config : Config) (b : State) (op : Operation) where
   q19-free Activate a h = refl
   q19-free Deactivate a h = refl
 
-  q19-after : (f : Family) (a : Actor) → stores f ≡ true → byDevice a ≡ false
-      → confined config (apply config op f a b) ≡ q19 config b op f a
-  unfolding q19
-  q19-after Write Driver h k = refl
-  q19-after Write Device h k = absurd (true≢false k)
-  q19-after Write External h k = refl
-  q19-after Copy Driver h k = refl
-  q19-after Copy Device h k = absurd (true≢false k)
-  q19-after Copy External h k = refl
-  q19-after Create a h k = absurd (false≢true h)
-  q19-after Destroy a h k = absurd (false≢true h)
-  q19-after Activate a h k = absurd (false≢true h)
-  q19-after Deactivate a h k = absurd (false≢true h)
+  pub q21-free : (f : Family) (a : Actor) → enters f a ≡ false → true ≡ q21 config b op f a
+  unfolding q21
+  q21-free Write a h = refl
+  q21-free Copy a h = refl
+  q21-free Create a h = refl
+  q21-free Destroy a h = refl
+  q21-free Activate Driver h = refl
+  q21-free Activate Device h = absurd (true≢false h)
+  q21-free Activate External h = refl
+  q21-free Deactivate a h = refl
+
+  abbrev both : Family → Actor → Bool
+  both f a = q19 config b op f a && q21 config b op f a
+
+  pub neither-put : (f : Family) (a : Actor) → follows f a ≡ false → true ≡ both f a
+  unfolding q19 q21
+  neither-put Write Driver h = absurd (true≢false h)
+  neither-put Write Device h = refl
+  neither-put Write External h = absurd (true≢false h)
+  neither-put Copy Driver h = absurd (true≢false h)
+  neither-put Copy Device h = refl
+  neither-put Copy External h = absurd (true≢false h)
+  neither-put Create a h = refl
+  neither-put Destroy a h = refl
+  neither-put Activate Driver h = refl
+  neither-put Activate Device h = absurd (true≢false h)
+  neither-put Activate External h = refl
+  neither-put Deactivate a h = refl
+
+  and-true : (t : Bool) → t ≡ (t && true)
+  and-true true = refl
+  and-true false = refl
+
+  either-put : (f : Family) (a : Actor) → follows f a ≡ true → confined config (apply config op f a b) ≡ both f a
+  unfolding q19 q21
+  either-put Write Driver h = and-true (confined config (apply config op Write Driver b))
+  either-put Write Device h = absurd (false≢true h)
+  either-put Write External h = and-true (confined config (apply config op Write External b))
+  either-put Copy Driver h = and-true (confined config (apply config op Copy Driver b))
+  either-put Copy Device h = absurd (false≢true h)
+  either-put Copy External h = and-true (confined config (apply config op Copy External b))
+  either-put Create Driver h = absurd (false≢true h)
+  either-put Create Device h = absurd (false≢true h)
+  either-put Create External h = absurd (false≢true h)
+  either-put Destroy Driver h = absurd (false≢true h)
+  either-put Destroy Device h = absurd (false≢true h)
+  either-put Destroy External h = absurd (false≢true h)
+  either-put Activate Driver h = absurd (false≢true h)
+  either-put Activate Device h = refl
+  either-put Activate External h = absurd (false≢true h)
+  either-put Deactivate Driver h = absurd (false≢true h)
+  either-put Deactivate Device h = absurd (false≢true h)
+  either-put Deactivate External h = absurd (false≢true h)
 
   -- question 20
   pub q20-free : (f : Family) (a : Actor) → leaves f ≡ false → true ≡ q20 config b op f a
@@ -182,45 +222,53 @@ module _ (config : Config) (b : State) (op : Operation) where
       rw (leaves-is f h, ← p)
       (q ∙ ap (λ (n : ℕ → Bool). unnamed config b n c) (λ i o. m o i))
 
-  -- question 21
-  pub q21-free : (f : Family) (a : Actor) → enters f a ≡ false → true ≡ q21 config b op f a
-  unfolding q21
-  q21-free Write a h = refl
-  q21-free Copy a h = refl
-  q21-free Create a h = refl
-  q21-free Destroy a h = refl
-  q21-free Activate Driver h = refl
-  q21-free Activate Device h = absurd (true≢false h)
-  q21-free Activate External h = refl
-  q21-free Deactivate a h = refl
+pub both-yes : (x y : Bool) → x && y ≡ true → (x ≡ true) × (y ≡ true)
+both-yes true y h = (refl, h)
+both-yes false y h = absurd (false≢true h)
 
-  q21-after : (f : Family) (a : Actor) → enters f a ≡ true
-      → confined config (apply config op f a b) ≡ q21 config b op f a
-  unfolding q21
-  q21-after Write a h = absurd (false≢true h)
-  q21-after Copy a h = absurd (false≢true h)
-  q21-after Create a h = absurd (false≢true h)
-  q21-after Destroy a h = absurd (false≢true h)
-  q21-after Activate Driver h = absurd (false≢true h)
-  q21-after Activate Device h = refl
-  q21-after Activate External h = absurd (false≢true h)
-  q21-after Deactivate a h = absurd (false≢true h)
+second-no : (x y : Bool) → true ≡ x → x && y ≡ false → y ≡ false
+second-no true y e h = h
+second-no false y e h = absurd (true≢false e)
 
-pub q19-next : (config : Config) (room : ℕ) (area : List ℕ) (op : Operation) (f : Family) (a : Actor)
-    → Ready config room area → Asked config op f a → stores f ≡ true → byDevice a ≡ false → {s : List ℕ}
+first-no : (x y : Bool) → true ≡ y → x && y ≡ false → x ≡ false
+first-no true true e h = absurd (true≢false h)
+first-no true false e h = absurd (true≢false e)
+first-no false y e h = refl
+
+-- questions 19 and 21: the number of the one that says no; where either is put, 20 is not
+pub next-number : (config : Config) (b : State) (op : Operation) (f : Family) (a : Actor)
+    → q19 config b op f a && q21 config b op f a ≡ false
+    → ask 19 (q19 config b op f a) (ask 20 (q20 config b op f a) (ask 21 (q21 config b op f a) 0))
+    ≡ cond (enters f a) 21 19
+next-number config b op f a h = go (enters f a) refl
+  where
+    staying : (f : Family) → activates f ≡ true → leaves f ≡ false
+    staying Write e = refl
+    staying Copy e = refl
+    staying Create e = refl
+    staying Destroy e = refl
+    staying Activate e = refl
+    staying Deactivate e = absurd (false≢true e)
+
+    go : (t : Bool) → enters f a ≡ t
+        → ask 19 (q19 config b op f a) (ask 20 (q20 config b op f a) (ask 21 (q21 config b op f a) 0)) ≡ cond t 21 19
+    go true e =
+        let (active, device) = both-yes (activates f) (byDevice a) e in
+        let yes₁₉ = q19-device config b op f a device in
+        let yes₂₀ = q20-free config b op f a (staying f active) in
+        let no₂₁ = second-no (q19 config b op f a) (q21 config b op f a) yes₁₉ h in
+        rw (← yes₁₉, ← yes₂₀, no₂₁)
+    go false e =
+        let no₁₉ = first-no (q19 config b op f a) (q21 config b op f a) (q21-free config b op f a e) h in
+        rw no₁₉
+
+pub follows-next : (config : Config) (room : ℕ) (area : List ℕ) (op : Operation) (f : Family) (a : Actor)
+    → Ready config room area → Asked config op f a → follows f a ≡ true → {s : List ℕ}
     → s ≡ layout (applied config op (view room area)) → {r : Bool} → r ≡ confined config (view room s)
-    → r ≡ q19 config (view room area) op f a
-q19-next config room area op f a ready asked h k {s} e p =
+    → r ≡ (q19 config (view room area) op f a && q21 config (view room area) op f a)
+follows-next config room area op f a ready asked h {s} e p =
     p ∙ (ap (confined config) (Readying.next-view config room area op f a ready asked s e)
-    ∙ q19-after config (view room area) op f a h k)
-
-pub q21-next : (config : Config) (room : ℕ) (area : List ℕ) (op : Operation) (f : Family) (a : Actor)
-    → Ready config room area → Asked config op f a → enters f a ≡ true → {s : List ℕ}
-    → s ≡ layout (applied config op (view room area)) → {r : Bool} → r ≡ confined config (view room s)
-    → r ≡ q21 config (view room area) op f a
-q21-next config room area op f a ready asked h {s} e p =
-    p ∙ (ap (confined config) (Readying.next-view config room area op f a ready asked s e)
-    ∙ q21-after config (view room area) op f a h)
+    ∙ either-put config (view room area) op f a h)
 
 -- questions 19 and 21: what is searched is the area s that the operation leaves
 pub searched-at : (config : Config) (room : ℕ) (s t : List ℕ) → s ≡ t → Searchable config room t

@@ -38,7 +38,7 @@ use Rattle.effect.specs.Fit.{Fit}
 use Rattle.effect.proofs.Effects.{fit}
 use Rattle.scene.proofs.Accepting.{values-ok, owners-ok, area-ok}
 use Rattle.searches.specs.Ready.{Accepted, Searchable, Ready, Complete, Asked}
-use Rattle.searches.specs.Asking.{stores, enters, InTable}
+use Rattle.searches.specs.Asking.{follows, InTable}
 
 pub accepted-of : (file : List ℕ) {l : Loaded} → l ≡ load file → l .answer ≡ 0 → Accepted (l .config)
 accepted-of file e z = record {
@@ -138,24 +138,16 @@ module _ (config : Config) (room : ℕ) (area : List ℕ) (op : Operation) (f : 
   formed : Formed room config before
   formed = formed-of room config before (ready .formed)
 
-  stored-right : (g : Family) → stores g ≡ true → q11 config op g a ≡ true → q13 config op g ≡ true
-      → Right (apply config op g a before)
-  stored-right Write s p q = write-formed room config (ready .fits) op before formed a p q .contents
-  stored-right Copy s p q = copy-formed room config (ready .fits) op before formed a p q .contents
-  stored-right Create s p q = absurd (false≢true s)
-  stored-right Destroy s p q = absurd (false≢true s)
-  stored-right Activate s p q = absurd (false≢true s)
-  stored-right Deactivate s p q = absurd (false≢true s)
-
-  entered-right : (g : Family) → enters g a ≡ true → q11 config op g a ≡ true → Right (apply config op g a before)
+  followed-right : (g : Family) (c : Actor) → follows g c ≡ true → q11 config op g c ≡ true → q13 config op g ≡ true
+      → Right (apply config op g c before)
   unfolding apply
-  entered-right Write s p = absurd (false≢true s)
-  entered-right Copy s p = absurd (false≢true s)
-  entered-right Create s p = absurd (false≢true s)
-  entered-right Destroy s p = absurd (false≢true s)
-  entered-right Activate s p =
-      activated-contents room config op before (view-shape room area .contents) (formed .contents) a p
-  entered-right Deactivate s p = absurd (false≢true s)
+  followed-right Write c h p q = write-formed room config (ready .fits) op before formed c p q .contents
+  followed-right Copy c h p q = copy-formed room config (ready .fits) op before formed c p q .contents
+  followed-right Create c h p q = absurd (false≢true h)
+  followed-right Destroy c h p q = absurd (false≢true h)
+  followed-right Activate c h p q =
+      activated-contents room config op before (view-shape room area .contents) (formed .contents) c p
+  followed-right Deactivate c h p q = absurd (false≢true h)
 
   pub next-state : applied config op (view room area) ≡ apply config op f a (view room area)
   next-state =
@@ -175,14 +167,10 @@ module _ (config : Config) (room : ℕ) (area : List ℕ) (op : Operation) (f : 
     next-long : length s ≡ areaLength room
     next-long = ap length laid ∙ layout-length room (apply config op f a (view room area)) shape
 
-    after-searchable : Right (apply config op f a (view room area)) → Searchable config room s
-    after-searchable h = searchable config room (ready .fits) sound s next-long (subst Right (sym next-view) h)
-
-    pub next-searchable : stores f ≡ true → Searchable config room s
-    next-searchable t = after-searchable (stored-right f t (asked .p11) (asked .p13))
-
-    pub entered-searchable : enters f a ≡ true → Searchable config room s
-    entered-searchable t = after-searchable (entered-right f t (asked .p11))
+    pub next-searchable : follows f a ≡ true → Searchable config room s
+    next-searchable h =
+        searchable config room (ready .fits) sound s next-long
+        (subst Right (sym next-view) (followed-right f a h (asked .p11) (asked .p13)))
 
 -- all questions are answered with yes
 pub passed-fit : (config : Config) (room : ℕ) (area answer : List ℕ) (op : Operation) → Ready config room area

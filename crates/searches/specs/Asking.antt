@@ -1,7 +1,7 @@
 -- Whom questions 18 to 21 concern, and their parts by the numbers that a loop looks at.
 use Prim.Native.Nat.{ℕ, _≤_, _<_}
 use mathlib.Core.Path.{_≡_}
-use mathlib.Core.Bool.{Bool, true, false, _&&_, _||_}
+use mathlib.Core.Bool.{Bool, true, false, not, cond, _&&_, _||_}
 use mathlib.Core.List.{List}
 use lib.ListN.{getD}
 use lib.Dec.{eqb}
@@ -51,6 +51,10 @@ activates Deactivate = false
 -- a device is brought in
 abbrev pub enters : Family → Actor → Bool
 enters f a = activates f && byDevice a
+
+-- questions 19 and 21: whether one of them is put
+abbrev pub follows : Family → Actor → Bool
+follows f a = cond (stores f) (not (byDevice a)) (enters f a)
 
 -- question 18: the scene m with the kinds and the state by which transfers are looked up; write entries do not count
 abbrev pub todayOf : Scene → List ℕ → State → Scene

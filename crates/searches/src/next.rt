@@ -1,16 +1,18 @@
-// Question 19: in the state that would follow no entry crosses; and the search of that state, which 21 needs too.
+// Questions 19 and 21: in the state that would follow no entry crosses.
 ghost use mathlib.Core.Path.{_≡_};
+ghost use mathlib.Core.Bool.{_&&_};
 ghost use Prim.Native.Nat.{_≤_};
 ghost use lib.ListN.{length, replicate};
 ghost use Rattle.model.specs.Config.{mostObjects, smallRoom};
 ghost use Rattle.model.specs.State.{areaLength, view, layout};
 ghost use Rattle.model.specs.Effect.{answerBytes};
 ghost use Rattle.model.specs.Closure.{confined};
-ghost use Rattle.model.specs.Questions.{q19};
+ghost use Rattle.model.specs.Questions.{q19, q21};
 ghost use Rattle.model.specs.Gate.{applied};
 ghost use Rattle.effect.specs.Fit.{Fit};
 ghost use Rattle.closure.specs.Search.{isNothing};
 ghost use Rattle.searches.specs.Ready.{Searchable, Ready, Asked};
+ghost use Rattle.searches.specs.Asking.{activates, enters, follows};
 use crate::transfers::is_by_device;
 use crate::transfers::is_storing;
 use closure::answer::crossing;
@@ -112,22 +114,40 @@ fn is_confined_wide(area: &[u8], room: usize, config: Config, op: Operation) -> 
     is_confined_after(area, &mut next[..n], room, config, op)
 }
 
-// The same by the room.
-pub(crate) fn is_confined_next(area: &[u8], room: usize, config: Config, op: Operation) -> bool
-    requires { ⌜ room ≤ mostObjects ⌝ }
-    requires { ⌜ Fit room op (now area) (replicate answerBytes 0) ⌝ }
-    requires { ⌜ Searchable config room (layout (applied config op (view room (now area)))) ⌝ }
-    ensures { λ r.
-        ⌜ r ≡ confined config (view room (layout (applied config op (view room (now (area .entry)))))) ⌝ }
+// An activation.
+fn is_activating(f: Family) -> bool
+    ensures { λ r. ⌜ r ≡ activates f ⌝ }
 {
-    if room == SMALL_ROOM as usize {
-        return is_confined_small(area, room, config, op);
+    match f {
+        Family::Write => false,
+        Family::Copy => false,
+        Family::Create => false,
+        Family::Destroy => false,
+        Family::Activate => true,
+        Family::Deactivate => false,
     }
-    is_confined_wide(area, room, config, op)
 }
 
-// 19: after a write or copy, unless a device acts, no entry crosses.
-pub fn stays_confined(
+// A device is brought in.
+pub fn is_entering(f: Family, a: Actor) -> bool
+    ensures { λ r. ⌜ r ≡ enters f a ⌝ }
+{
+    is_activating(f) & is_by_device(a)
+}
+
+// 19 is put to writes and copies, unless a device acts, and 21 where a device is brought in.
+fn is_followed(f: Family, a: Actor) -> bool
+    ensures { λ r. ⌜ r ≡ follows f a ⌝ }
+{
+    if is_storing(f) {
+        return !is_by_device(a);
+    }
+    is_entering(f, a)
+}
+
+// 19 and 21: no entry crosses in the state that would follow, of whichever device. One function asks both, since an
+// operation is put to one of them at most; a second call would copy the configuration once more.
+pub fn follows_confined(
     config: Config,
     area: &[u8],
     room: usize,
@@ -137,13 +157,14 @@ pub fn stays_confined(
 ) -> bool
     requires { ⌜ Ready config room (now area) ⌝ }
     requires { ⌜ Asked config op f a ⌝ }
-    ensures { λ r. ⌜ r ≡ q19 config (view room (now (area .entry))) op f a ⌝ }
+    ensures { λ r.
+        ⌜ r ≡ (q19 config (view room (now (area .entry))) op f a && q21 config (view room (now (area .entry))) op f a) ⌝ }
 {
-    if is_by_device(a) {
+    if !is_followed(f, a) {
         return true;
     }
-    if !is_storing(f) {
-        return true;
+    if room == SMALL_ROOM as usize {
+        return is_confined_small(area, room, config, op);
     }
-    is_confined_next(area, room, config, op)
+    is_confined_wide(area, room, config, op)
 }

@@ -43,8 +43,8 @@ returns-3 c =
     Calling.no-18 _ _ _ (j .judge .ensures (a .args .t1)) (s .before .before .if1 .left) (s .before .family-of .ensures)
     (s .actor-of .ensures) (c .before .are-described .ensures) (not-true _ (c .if3 .taken))
 
-stays-confined-requires : tie.Need-stays-confined-requires
-stays-confined-requires c κs =
+follows-confined-requires : tie.Need-follows-confined-requires
+follows-confined-requires c κs =
     let s = c .before .before .before .before in let j = s .before .before .before in
     let a = j .before .before .before .before .before .before .before .before in (
       a .pre .0,
@@ -52,34 +52,33 @@ stays-confined-requires c κs =
           (s .before .family-of .ensures) (s .actor-of .ensures) (a .pre .1),
     )
 
+next-number-requires : tie.Need-next-number-requires
+next-number-requires c κs = search needs
+
 returns-4 : tie.Need-returns-4
 returns-4 c =
-    let d = c .before .before .before in let s = d .before .before .before in let j = s .before .before .before in
+    let k = c .before in
+    let d = k .before .before .before in let s = d .before .before .before in let j = s .before .before .before in
     let a = j .before .before .before .before .before .before .before .before in
-    Calling.no-19 _ _ _ (j .judge .ensures (a .args .t1)) (s .before .before .if1 .left) (s .before .family-of .ensures)
-    (s .actor-of .ensures) (d .are-described .ensures) (not-false _ (c .before .before .if3 .left))
-    (c .before .stays-confined .ensures) (not-true _ (c .if4 .taken))
+    Calling.no-next _ _ _ (j .judge .ensures (a .args .t1)) (s .before .before .if1 .left)
+    (s .before .family-of .ensures) (s .actor-of .ensures) (d .are-described .ensures)
+    (not-false _ (k .before .before .if3 .left)) (k .before .follows-confined .ensures) (not-true _ (k .if4 .taken))
+    (c .next-number .ensures)
 
-stays-unnamed-requires : tie.Need-stays-unnamed-requires
-stays-unnamed-requires c κs =
-    let s = c .before .before .before .before .before .before in let j = s .before .before .before in
-    let a = j .before .before .before .before .before .before .before .before in (
-      a .pre .0,
-      Calling.asked-of _ _ _ (j .judge .ensures (a .args .t1)) (s .before .before .if1 .left)
-          (s .before .family-of .ensures) (s .actor-of .ensures) (a .pre .1),
-    )
+is-leaving-requires : tie.Need-is-leaving-requires
+is-leaving-requires c κs = search needs
 
 returns-5 : tie.Need-returns-5
 returns-5 c =
     let g = c .before .before .before in let d = g .before .before in let s = d .before .before .before in
     let j = s .before .before .before in let a = j .before .before .before .before .before .before .before .before in
-    Calling.no-20 _ _ _ (j .judge .ensures (a .args .t1)) (s .before .before .if1 .left)
+    Calling.stays _ _ _ (j .judge .ensures (a .args .t1)) (s .before .before .if1 .left)
     (s .before .family-of .ensures) (s .actor-of .ensures) (d .are-described .ensures)
-    (not-false _ (g .before .if3 .left)) (g .stays-confined .ensures) (not-false _ (c .before .before .if4 .left))
-    (c .before .stays-unnamed .ensures) (not-true _ (c .if5 .taken))
+    (not-false _ (g .before .if3 .left)) (g .follows-confined .ensures) (not-false _ (c .before .before .if4 .left))
+    (c .before .is-leaving .ensures) (not-true _ (c .if5 .taken))
 
-enters-confined-requires : tie.Need-enters-confined-requires
-enters-confined-requires c κs =
+stays-unnamed-requires : tie.Need-stays-unnamed-requires
+stays-unnamed-requires c κs =
     let s = c .before .before .before .before .before .before .before .before in let j = s .before .before .before in
     let a = j .before .before .before .before .before .before .before .before in (
       a .pre .0,
@@ -89,25 +88,23 @@ enters-confined-requires c κs =
 
 returns-6 : tie.Need-returns-6
 returns-6 c =
-    let u = c .before .before .before in
-    let g = u .before .before in let d = g .before .before in let s = d .before .before .before in
+    let l = c .before .before .before .before in
+    let g = l .before in let d = g .before .before in let s = d .before .before .before in
     let j = s .before .before .before in let a = j .before .before .before .before .before .before .before .before in
     Calling.all-yes _ _ _ (j .judge .ensures (a .args .t1)) (s .before .before .if1 .left)
     (s .before .family-of .ensures) (s .actor-of .ensures) (d .are-described .ensures)
-    (not-false _ (g .before .if3 .left)) (g .stays-confined .ensures) (not-false _ (u .before .if4 .left))
-    (u .stays-unnamed .ensures) (not-false _ (c .before .before .if5 .left)) (c .before .enters-confined .ensures)
-    (c .if6 .taken)
+    (not-false _ (g .before .if3 .left)) (g .follows-confined .ensures) (not-false _ (l .if4 .left))
+    (c .before .stays-unnamed .ensures) (c .if6 .taken)
 
 returns-7 : tie.Need-returns-7
 returns-7 c =
-    let u = c .before .before .before in
-    let g = u .before .before in let d = g .before .before in let s = d .before .before .before in
+    let l = c .before .before .before .before in
+    let g = l .before in let d = g .before .before in let s = d .before .before .before in
     let j = s .before .before .before in let a = j .before .before .before .before .before .before .before .before in
-    Calling.no-21 _ _ _ (j .judge .ensures (a .args .t1)) (s .before .before .if1 .left)
+    Calling.no-20 _ _ _ (j .judge .ensures (a .args .t1)) (s .before .before .if1 .left)
     (s .before .family-of .ensures) (s .actor-of .ensures) (d .are-described .ensures)
-    (not-false _ (g .before .if3 .left)) (g .stays-confined .ensures) (not-false _ (u .before .if4 .left))
-    (u .stays-unnamed .ensures) (not-false _ (c .before .before .if5 .left)) (c .before .enters-confined .ensures)
-    (c .if6 .left)
+    (not-false _ (g .before .if3 .left)) (g .follows-confined .ensures) (not-false _ (l .if4 .left))
+    (c .before .stays-unnamed .ensures) (c .if6 .left)
 
 pub judge-all-spec : {M : Type 1} → statement M
 judge-all-spec =
@@ -121,10 +118,11 @@ judge-all-spec =
     returns-2
     are-described-requires
     returns-3
-    stays-confined-requires
+    follows-confined-requires
+    next-number-requires
     returns-4
-    stays-unnamed-requires
+    is-leaving-requires
     returns-5
-    enters-confined-requires
+    stays-unnamed-requires
     returns-6
     returns-7)

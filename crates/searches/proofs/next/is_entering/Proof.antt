@@ -1,7 +1,7 @@
--- `searches::entering::is_entering` meets its contract: both tests are the definition's. Assumes nothing.
+-- `searches::next::is_entering` meets its contract: both tests are the definition's. Assumes nothing.
 use borrow.Author.Needs.{needs}
-use Rattle.searches.proofs.entering.is_entering.Statement.{statement}
-use Rattle.searches.proofs.entering.is_entering.Tie as tie
+use Rattle.searches.proofs.next.is_entering.Statement.{statement}
+use Rattle.searches.proofs.next.is_entering.Tie as tie
 
 is-activating-requires : tie.Need-is-activating-requires
 is-activating-requires c κs = search needs
