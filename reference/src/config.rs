@@ -135,6 +135,25 @@ impl Config {
         if number == 0 { &[] } else { &self.values[number - 1] }
     }
 
+    /// The entries of a device's hardcoded value.
+    pub fn hardcoded_entries(&self, device: usize) -> &[Entry] {
+        self.value(self.hardcoded[device - 1])
+    }
+
+    /// Whether a write by this entry puts a value into a descriptor.
+    pub fn stores(&self, entry: &Entry) -> bool {
+        entry.writes() && self.kind(entry.object) == Kind::Transfer
+    }
+
+    /// Whether a device advances a ring of its own (request N4): its hardcoded value writes kind 1.
+    pub fn has_ring(&self, device: usize) -> bool {
+        self.hardcoded_entries(device).iter().any(|entry| self.stores(entry))
+    }
+
+    pub fn has_rings(&self) -> bool {
+        (1..=self.devices()).any(|device| self.has_ring(device))
+    }
+
     pub fn owned_by(&self, owner: Owner) -> Vec<usize> {
         (1..=self.objects.len()).filter(|number| self.object(*number).owner == owner).collect()
     }
@@ -148,6 +167,14 @@ impl Config {
 
 /// Loads a configuration file, or gives the number of the first question that is answered with no.
 pub fn load(line: &[u8]) -> Result<Config, u8> {
+    load_with(hardcoded_values_fit, line)
+}
+
+/// A question about a whole configuration, answered with yes or no.
+pub type Question = fn(&Config) -> bool;
+
+/// The same with question 6 of the caller's choice.
+pub fn load_with(question_6: Question, line: &[u8]) -> Result<Config, u8> {
     let mut reader = Reader::new(line);
     let config = read_config(&mut reader)?;
     if !reader.at_end() {
@@ -156,7 +183,7 @@ pub fn load(line: &[u8]) -> Result<Config, u8> {
     if !hardcoded_owners_fit(&config) {
         return Err(5);
     }
-    if !hardcoded_values_fit(&config) {
+    if !question_6(&config) {
         return Err(6);
     }
     Ok(config)
@@ -219,14 +246,13 @@ fn hardcoded_owners_fit(config: &Config) -> bool {
     one_each && owners.iter().all(|owner| matches!(owner, Owner::Device(_)))
 }
 
-/// Question 6: each hardcoded value names only its own device's objects, none of kind 4, and kind 1 by mode 1 only.
-fn hardcoded_values_fit(config: &Config) -> bool {
+/// Question 6: each hardcoded value names only its own device's objects, none of kind 4. It may write those of kind 1
+/// (request N4); what it puts there is asked by question 3.
+pub fn hardcoded_values_fit(config: &Config) -> bool {
     (1..=config.devices()).all(|device| {
-        config.value(config.hardcoded[device - 1]).iter().all(|entry| {
+        config.hardcoded_entries(device).iter().all(|entry| {
             let object = config.object(entry.object);
-            object.owner == Owner::Device(device)
-                && object.kind != Kind::Hardcoded
-                && (object.kind != Kind::Transfer || entry.mode == 1)
+            object.owner == Owner::Device(device) && object.kind != Kind::Hardcoded
         })
     })
 }

@@ -51,14 +51,26 @@ pub fn fresh(line: &[u8], state: &mut [u8]) -> u32 {
     }
 }
 
-/// Judges one operation and, at 0, carries it out: questions 1 to 20. At any other number both areas are as they were.
+/// Judges one operation and, at 0, carries it out: questions 1 to 21. At any other number both areas are as they were.
 pub fn operate(line: &[u8], state: &mut [u8], record: &[u8], answer: &mut [u8]) -> u32 {
-    operate_with(closure, line, state, record, answer)
+    let judge = |config: &Config, state: &State, record: &[u8]| judge(closure, config, state, record);
+    operate_with(load, judge, line, state, record, answer)
 }
 
-/// The same with a search of the caller's choice.
-pub fn operate_with(search: Search, line: &[u8], state: &mut [u8], record: &[u8], answer: &mut [u8]) -> u32 {
-    match judge_areas(search, line, state, record, answer.len()) {
+/// The same with a loader (questions 1 to 6) and a judge (questions 10 to 21) of the caller's choice.
+pub fn operate_with(
+    load: impl Fn(&[u8]) -> Result<Config, u8>,
+    judge: impl Fn(&Config, &State, &[u8]) -> Judgement,
+    line: &[u8],
+    state: &mut [u8],
+    record: &[u8],
+    answer: &mut [u8],
+) -> u32 {
+    let judged = load(line).and_then(|config| {
+        let state = to_judge(&config, state, answer.len())?;
+        judge(&config, &state, record)
+    });
+    match judged {
         Err(number) => u32::from(number),
         Ok((next, answers)) => {
             state.copy_from_slice(&next.to_bytes());
@@ -73,18 +85,16 @@ pub fn operate_with(search: Search, line: &[u8], state: &mut [u8], record: &[u8]
 /// The state that follows and the contents read, or the first refusal.
 pub type Judgement = Result<(State, Vec<Contents>), u8>;
 
-fn judge_areas(search: Search, line: &[u8], state: &[u8], record: &[u8], answer_bytes: usize) -> Judgement {
-    let (config, state) = shown(line, state)?;
+/// The state that an operation is judged on: questions 7 to 9.
+fn to_judge(config: &Config, area: &[u8], answer_bytes: usize) -> Result<State, u8> {
+    let state = State::from_bytes(config, area).ok_or(7)?;
     if answer_bytes < ANSWER_BYTES {
         return Err(8);
     }
-    if !well_formed(&config, &state) {
-        return Err(9);
-    }
-    judge(search, &config, &state, record)
+    if well_formed(config, &state) { Ok(state) } else { Err(9) }
 }
 
-/// Questions 10 to 20, for a well formed state.
+/// Questions 10 to 21, for a well formed state.
 pub fn judge(search: Search, config: &Config, state: &State, record: &[u8]) -> Judgement {
     let operation = operation::read(record).ok_or(10)?;
     let case = Case { config, state, operation: &operation, search };

@@ -1,4 +1,4 @@
-//! Questions 11 to 20, each put for the whole operation before the next. A question here is a function that answers yes
+//! Questions 11 to 21, each put for the whole operation before the next. A question here is a function that answers yes
 //! or no; the first no gives its number.
 
 use crate::closure::{self, Search};
@@ -21,7 +21,7 @@ pub struct Case<'a> {
 pub type Question = fn(&Case) -> bool;
 
 /// In the order in which they are asked.
-pub const QUESTIONS: [(u8, Question); 10] = [
+pub const QUESTIONS: [(u8, Question); 11] = [
     (11, names_exist),
     (12, nothing_twice),
     (13, kinds_fit),
@@ -32,6 +32,7 @@ pub const QUESTIONS: [(u8, Question); 10] = [
     (18, transfers_are_described),
     (19, nothing_crosses_after),
     (20, nothing_leaves_in_reach),
+    (21, nothing_crosses_with_the_device),
 ];
 
 /// The first question that is answered with no.
@@ -174,8 +175,13 @@ fn nothing_crosses_after(case: &Case) -> bool {
     else {
         return true;
     };
+    !crosses_after(case)
+}
+
+/// Whether an entry of any active device would cross in the state that would follow.
+fn crosses_after(case: &Case) -> bool {
     let next = effect::apply(case.config, case.state, case.operation);
-    !closure::any_crosses(case.config, &next, case.search)
+    closure::any_crosses(case.config, &next, case.search)
 }
 
 /// Question 20: deactivations, on the state before the call. A device that leaves counts for nothing itself, but the
@@ -191,4 +197,10 @@ fn nothing_leaves_in_reach(case: &Case) -> bool {
     let mut others =
         closure::entries(case.config, &found).filter(|(device, _)| leaving != Some(Actor::Device(*device)));
     others.all(|(_, entry)| !concerned.contains(&entry.object))
+}
+
+/// Question 21 (request N4): a device that comes in, with a ring or without, on the state that would follow, about
+/// every active device.
+fn nothing_crosses_with_the_device(case: &Case) -> bool {
+    !matches!(case.operation, Operation::Activate { actor: Actor::Device(_), .. }) || !crosses_after(case)
 }

@@ -152,17 +152,12 @@ fn hardcoded_owners_fit(memory: &Memory) -> bool {
         && devices(memory).all(|device| count(device) == 1)
 }
 
-/// Question 6: each hardcoded value names only its own device's objects, none of kind 4, and kind 1 by mode 1 only.
+/// Question 6: each hardcoded value names only its own device's objects, none of kind 4, by any mode.
 fn hardcoded_values_fit(memory: &Memory) -> bool {
     devices(memory).all(|device| {
-        memory.entries_of(usize::from(memory.hardcoded[device])).all(|[object, mode, _]| {
+        memory.entries_of(usize::from(memory.hardcoded[device])).all(|[object, _, _]| {
             let object = usize::from(object);
-            let kind_fits = match memory.kind[object] {
-                HARDCODED => false,
-                TRANSFER => mode == READ,
-                _ => true,
-            };
-            is_of_device(memory, object, device) && kind_fits
+            is_of_device(memory, object, device) && memory.kind[object] != HARDCODED
         })
     })
 }

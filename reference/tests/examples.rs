@@ -1,4 +1,4 @@
-//! The examples of document 01.
+//! The examples of document 01 and of request N4.
 
 mod common;
 
@@ -37,6 +37,35 @@ fn the_p_sequence_as_a_session() {
         expected += &format!("{} {answer}\n", place + 1);
     }
     assert_eq!(report(&file_l(), &session), expected.into_bytes());
+}
+
+/// L with this entry in its first value.
+fn l_with(entry: [u8; 3]) -> Vec<u8> {
+    let mut line = file_l();
+    line.splice(26..29, entry);
+    line
+}
+
+#[test]
+fn example_r() {
+    // Device 1 reads and writes its own object 2, putting value 3, which writes object 5.
+    let mut desk = Desk::new(&l_with([2, 3, 3]));
+    let rows: [(&[usize], u32); 7] = [
+        (&[5, 1], 0),
+        (&[8, 1, 1], 21),
+        (&[9, 1, 1, 5], 0),
+        (&[8, 1, 1], 0),
+        (&[12, 1, 1, 5], 20),
+        (&[11, 1], 0),
+        (&[12, 1, 1, 5], 0),
+    ];
+    for (record, answer) in rows {
+        assert_eq!(desk.numbers(record), answer, "{record:?}");
+    }
+    // It writes, and never reads, object 2.
+    Desk::new(&l_with([2, 2, 4])).accept(&[&[5, 1], &[8, 1, 1]]);
+    // Device 2's object.
+    assert_eq!(load_check(&l_with([4, 2, 3])), 6);
 }
 
 #[test]

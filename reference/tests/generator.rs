@@ -6,7 +6,7 @@ use reference::gate::judge;
 use reference::generate::records::record;
 use reference::generate::rewrites::rewrites;
 use reference::generate::worlds::world;
-use reference::generate::{Rng, Size, Want, areas, broken};
+use reference::generate::{Rng, Size, Want, areas, broken, ringed};
 use reference::state::{State, well_formed};
 use reference::{effect, load, operation, rewrite};
 use std::collections::BTreeSet;
@@ -16,7 +16,7 @@ fn worlds_load_as_they_were_made() {
     for seed in 0..400 {
         let mut rng = Rng::part(1, seed);
         let size = Size::any(&mut rng);
-        let world = world(&mut rng, size);
+        let world = ringed(&mut rng, size);
         assert_eq!(load(&world.line).as_ref(), Ok(&world.config), "seed {seed}");
         if size == Size::Full {
             let config = &world.config;
@@ -44,7 +44,7 @@ fn broken_lines_get_every_number() {
     let mut rng = Rng::new(3);
     for number in 1..=6 {
         let hits = (0..200).filter(|_| {
-            let world = world(&mut rng, Size::Small);
+            let world = ringed(&mut rng, Size::Small);
             load(&broken::line(&mut rng, &world, number)).err() == Some(number)
         });
         assert!(hits.count() > 120, "{number}");
@@ -56,7 +56,7 @@ fn rewritten_files_show_every_kind_of_answer() {
     let mut rng = Rng::new(7);
     let mut seen = [[0; 7]; 3];
     for _ in 0..100 {
-        let world = world(&mut rng, Size::Small);
+        let world = ringed(&mut rng, Size::Small);
         for call in rewrites(&mut rng, &world) {
             let answer = rewrite(&call.line, &mut call.out.clone());
             let (kind, number) = ((answer >> 32) as usize, answer as u32 as usize);
@@ -83,15 +83,15 @@ fn areas_are_broken_or_well_formed_as_asked() {
 }
 
 /// How many answers of each number a size gives, and the depths of searches that end accepted and refused.
-fn survey(size: Size) -> ([usize; 21], [BTreeSet<usize>; 2]) {
-    let mut seen = [0; 21];
+fn survey(size: Size) -> ([usize; 22], [BTreeSet<usize>; 2]) {
+    let mut seen = [0; 22];
     let mut depths = [BTreeSet::new(), BTreeSet::new()];
     for seed in 0..60 {
         let mut rng = Rng::part(5, seed);
-        let world = world(&mut rng, size);
+        let world = ringed(&mut rng, size);
         let mut state = State::fresh(&world.config);
         for _ in 0..60 + world.config.objects.len() {
-            let want = Want::any(&mut rng);
+            let want = Want::any(&mut rng, &world);
             let record = record(&mut rng, &world, &state, want);
             let result = judge(closure, &world.config, &state, &record);
             let number = usize::from(result.as_ref().err().copied().unwrap_or(0));
@@ -116,7 +116,7 @@ fn sessions_go_deep_and_show_every_number() {
         let (seen, depths) = survey(size);
         println!("{size:?} {seen:?}\n  accepted at {:?}\n  refused at {:?}", depths[0], depths[1]);
         assert!(seen[0] * 2 > seen.iter().sum(), "{size:?} {seen:?}");
-        assert!((10..=20).all(|number| seen[number] >= 20), "{size:?} {seen:?}");
+        assert!((10..=21).all(|number| seen[number] >= 20), "{size:?} {seen:?}");
         assert!(depths.iter().all(|depths| depths.last() >= Some(&depth)), "{size:?} {depths:?}");
     }
 }

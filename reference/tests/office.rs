@@ -3,9 +3,10 @@
 mod common;
 
 use common::file_l;
+use reference::generate::corners::ring_corners;
 use reference::generate::drills::POINTS;
-use reference::generate::stored::{MOST_INPUT, long, with_drills};
-use reference::generate::{Rng, Size, sessions::folder};
+use reference::generate::stored::{MOST_INPUT, RING_CASES, long, with_drills};
+use reference::generate::{Rng, Size, sessions::folder, stored};
 use reference::{load, report};
 
 fn text(line: &[u8], session: &[u8]) -> String {
@@ -56,7 +57,7 @@ fn lengths_and_cuts() {
 fn stored_cases_hold_together() {
     let cases = with_drills(1, 300, 120_000);
     let drills: usize = POINTS.iter().map(|(_, count)| count).sum();
-    assert_eq!(cases.tally.cases, 300 + drills);
+    assert_eq!(cases.tally.cases, 300 + drills + ring_corners().len() + RING_CASES);
     assert!(cases.input.len() <= MOST_INPUT);
     assert_eq!(cases.tally.rare(5), Vec::<usize>::new());
     assert!(cases.tally.cut >= 5 && cases.tally.silent >= 1);
@@ -78,16 +79,39 @@ fn checksum(bytes: &[u8]) -> u64 {
     bytes.iter().fold(0xCBF2_9CE4_8422_2325, |sum, byte| (sum ^ u64::from(*byte)).wrapping_mul(0x100_0000_01B3))
 }
 
-/// The cases that were stored before there were wide configurations come first, byte for byte, with their answers.
+/// The cases that were stored before there were wide configurations come first, byte for byte; then those of wide ones,
+/// then those of devices with rings.
 #[test]
 fn the_cases_of_before_come_first() {
     let cases = with_drills(1, 300, 120_000);
     assert_eq!(checksum(&cases.input[..128_152]), 0xAFFD_0291_3340_08DF);
-    assert_eq!(checksum(&cases.expected[..45_012]), 0x333B_C369_F988_7F58);
-    let behind = reference::generate::stored::cases(&cases.input[128_152..]).expect("whole cases");
+    assert_eq!(checksum(&cases.input[..130_929]), 0x5B34_399F_0771_3F4A);
+    let wide = stored::cases(&cases.input[128_152..130_929]).expect("whole cases");
     let objects: Vec<usize> =
-        behind.iter().map(|case| load(&case.line).expect("the file is accepted").objects.len()).collect();
+        wide.iter().map(|case| load(&case.line).expect("the file is accepted").objects.len()).collect();
     assert_eq!(objects, [192, 128, 191, 97]);
+    let behind = stored::cases(&cases.input[130_929..]).expect("whole cases");
+    let ringed = behind.iter().filter(|case| load(&case.line).is_ok_and(|config| config.has_rings()));
+    assert!(ringed.count() > 45);
+}
+
+/// Two of the files stored before have a hardcoded value that writes a descriptor. They were refused by 6 then; all
+/// others have their answers of before.
+#[test]
+fn the_cases_of_before_keep_their_answers() {
+    let stored = with_drills(1, 300, 120_000);
+    let cases = stored::cases(&stored.input[..130_929]).expect("whole cases");
+    let has_rings = |line: &[u8]| load(line).is_ok_and(|config| config.has_rings());
+    assert_eq!(cases.iter().filter(|case| has_rings(&case.line)).count(), 2);
+    let expected: Vec<u8> = cases
+        .iter()
+        .flat_map(|case| {
+            let text = if has_rings(&case.line) { b"line 6\n".to_vec() } else { report(&case.line, &case.session) };
+            [text, b".\n".to_vec()].concat()
+        })
+        .collect();
+    assert_eq!(checksum(&expected[..45_012]), 0x333B_C369_F988_7F58);
+    assert_eq!(checksum(&expected), 0xC620_726A_FB9B_22CF);
 }
 
 #[test]

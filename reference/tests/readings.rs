@@ -271,3 +271,101 @@ fn fresh_overwrites_whatever_the_area_held() {
     (expected[97], expected[96 + 34 + 1]) = (1, 2);
     assert_eq!(state, expected);
 }
+
+/// The line with another value for device 1's hardcoded descriptor; values 3, 4 and so on are those given.
+fn ring_desk(hardcoded: &[Entry], values: &[&[Entry]]) -> Desk {
+    let numbers = |entries: &[Entry]| [&[entries.len()][..], &entries.concat()].concat();
+    let plain = numbers(&[[T1, 1, 0]]);
+    let mut line = line(values);
+    // The counts, nine objects of three numbers, and two hardcoded values stand before the first value.
+    let place = 5 + 9 * 3 + 2;
+    line.splice(place..place + plain.len(), row(&numbers(hardcoded)));
+    let mut desk = Desk::new(&line);
+    desk.accept(&[&[5, 1], &[5, 2]]);
+    desk
+}
+
+#[test]
+fn a_ring_is_judged_by_where_it_leads() {
+    // 3 puts 4 into T3, an external descriptor, and reads it; 4 names DATA.
+    let mut desk = ring_desk(&[[T1, 3, 3]], &[&[[T3, 3, 4]], &[[DATA, 1, 0]]]);
+    assert_eq!(desk.numbers(&[8, 1, 1]), 21, "T3 is in none");
+    desk.accept(&[&[9, 1, 1, T3]]);
+    assert_eq!(desk.numbers(&[8, 1, 1]), 21, "DATA is in none");
+    desk.accept(&[&[9, 2, 1, DATA]]);
+    assert_eq!(desk.numbers(&[8, 1, 1]), 21, "DATA is elsewhere");
+    desk.accept(&[&[12, 2, 1, DATA], &[9, 1, 1, DATA], &[8, 1, 1]]);
+    assert_eq!(desk.numbers(&[12, 1, 1, DATA]), 20);
+    assert_eq!(desk.numbers(&[12, 1, 1, T3]), 20);
+}
+
+#[test]
+fn a_ring_describes_its_own_writes() {
+    let mut desk = ring_desk(&[[T1, 3, 3]], &[&[[T1, 3, 4]], &[]]);
+    desk.accept(&[&[8, 1, 1]]);
+    assert_eq!(desk.numbers(&[2, 1, 1, T1, 0, 4]), 18, "nothing describes it yet");
+    desk.accept(&[&[2, 1, 1, T1, 0, 3], &[2, 1, 1, T1, 0, 4]]);
+    assert_eq!(desk.numbers(&[2, 1, 1, T1, 0, 0]), 18, "a hardcoded value puts what it says and nothing else");
+    desk.accept(&[&[2, 1, 1, T1, 0, 3], &[4, 1, 1, T1, 0]]);
+    assert_eq!(desk.numbers(&[4, 1, 1, T1, T1]), 0, "it holds 3, which the ring puts there");
+}
+
+#[test]
+fn a_ring_that_is_not_read_leads_nowhere_until_it_is() {
+    // T1 is written with 3, which names device 2's descriptor.
+    let mut desk = ring_desk(&[[T1, 2, 3]], &[&[[T2, 1, 0]]]);
+    desk.accept(&[&[8, 1, 1], &[2, 1, 1, T1, 0, 3]]);
+    assert_eq!(desk.numbers(&[4, 1, 1, T1, 0]), 18);
+    desk.accept(&[&[11, 1], &[8, 1, 2]]);
+}
+
+#[test]
+fn a_ring_of_six_entries() {
+    // Two values are put into T1: 3 is harmless, and 4 names DATA.
+    let six = [[T1, 2, 4], [T1, 2, 3], [T1, 1, 0], [T1, 3, 3], [T1, 3, 0], [T1, 2, 0]];
+    let mut desk = ring_desk(&six, &[&[], &[[DATA, 2, 0]]]);
+    assert_eq!(desk.numbers(&[8, 1, 1]), 21);
+    desk.accept(&[&[9, 1, 1, DATA], &[8, 1, 1]]);
+    desk.accept(&[&[2, 1, 1, T1, 0, 4], &[2, 1, 1, T1, 0, 3], &[2, 1, 1, T1, 0, 0]]);
+    assert_eq!(desk.numbers(&[12, 1, 1, DATA]), 20);
+}
+
+#[test]
+fn a_descriptor_and_hardcoded_value_0_make_no_ring() {
+    let mut desk = ring_desk(&[], &[&[[T2, 1, 0]]]);
+    set(&mut desk, T1, 1, 3);
+    desk.accept(&[&[8, 1, 1], &[11, 1], &[8, 1, 2]]);
+    assert_eq!(desk.numbers(&[4, 1, 1, T1, 0]), 18);
+}
+
+#[test]
+fn what_a_ring_puts_counts_for_every_device_that_reads_it() {
+    // The ring puts 3 into T1, which puts 4 into T3 and does not read it. Device 2 reads T3; 4 names MORE.
+    let mut desk = ring_desk(&[[T1, 3, 3]], &[&[[T3, 2, 4]], &[[MORE, 1, 0]], &[[T3, 1, 0]]]);
+    desk.accept(&[&[7, 1, 1], &[8, 2, 1], &[9, 1, 1, T3], &[1, 1, 1, T2, 0, 5]]);
+    assert_eq!(desk.numbers(&[8, 1, 1]), 21, "device 2 would be outside");
+    desk.accept(&[&[9, 1, 1, MORE], &[8, 1, 1]]);
+    assert_eq!(desk.numbers(&[12, 1, 1, MORE]), 20);
+    desk.accept(&[&[11, 1], &[12, 1, 1, MORE]]);
+}
+
+#[test]
+fn what_a_device_held_is_cleared_before_21_is_put() {
+    let mut desk = ring_desk(&[[T1, 3, 0]], &[&[[DATA, 1, 0]]]);
+    desk.accept(&[&[7, 1, 1], &[8, 1, 1], &[9, 1, 1, DATA], &[1, 1, 1, T1, 0, 3], &[11, 1], &[12, 1, 1, DATA]]);
+    assert_eq!(contents(&desk, T1)[0], 3);
+    desk.accept(&[&[8, 1, 1]]);
+}
+
+#[test]
+fn question_21_looks_at_every_active_device() {
+    // An area that no list of calls reaches: device 2, in partition 2, holds a value that names DATA of partition 1.
+    // Device 1 has no ring and is harmless.
+    let mut desk = desk(&[&[[DATA, 1, 0]]], 2);
+    desk.accept(&[&[11, 1]]);
+    set(&mut desk, T2, 1, 3);
+    assert_eq!(desk.numbers(&[8, 1, 1]), 21);
+    assert_eq!(desk.numbers(&[8, 1, 2]), 21);
+    set(&mut desk, T2, 1, 0);
+    assert_eq!(desk.numbers(&[8, 1, 2]), 0);
+}

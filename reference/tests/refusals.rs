@@ -2,7 +2,7 @@
 
 mod common;
 
-use common::{desk_after_seven, file_l};
+use common::{Desk, desk_after_seven, file_l};
 use reference::generate::{Call, Calls, Function};
 use reference::tokens::row;
 use reference::{fresh, load_check, operate};
@@ -67,12 +67,73 @@ fn questions_4_to_6_of_the_file() {
     assert_eq!(load_check(&line(&[4, 2, 1, 4, 0, 0], 1)), 5);
     assert_eq!(load_check(&line(&[4, 2, 1, 4, 1, 1], 1)), 5);
     assert_eq!(load_check(&line(&[4, 2, 1, 4, 2, 1], 2)), 5);
-    // Device 1 hardcoded to value 2, 3 and 5: another's object, an external one, its own kind 1 by mode 2.
-    for value in [2, 3, 5] {
+    // Device 1 hardcoded to value 2, 3 and 4: another's object, an external one, another's by mode 2.
+    for value in [2, 3, 4] {
         assert_eq!(load_check(&l_with(23, &[value])), 6);
     }
     assert_eq!(load_check(&l_with(26, &[1])), 6, "its own kind 4");
-    assert_eq!(load_check(&l_with(27, &[3])), 6, "kind 1 by mode 3");
+    assert_eq!(load_check(&l_with(23, &[5])), 0, "its own kind 1 by mode 2");
+    assert_eq!(load_check(&l_with(27, &[3])), 0, "the same by mode 3");
+}
+
+/// L with this entry as its first value, device 1's hardcoded one.
+fn l_with_entry(entry: [usize; 3]) -> Vec<u8> {
+    let mut line = file_l();
+    line.splice(26..29, row(&entry));
+    line
+}
+
+#[test]
+fn question_6_of_every_object_and_mode() {
+    for mode in 1..=3 {
+        for (object, answer) in [(1, 6), (2, 0), (3, 6), (4, 6), (5, 6), (6, 6)] {
+            assert_eq!(load_check(&l_with_entry([object, mode, 0])), answer, "object {object} by mode {mode}");
+        }
+        // Objects 5 and 6, of nobody and of a driver, as descriptors.
+        for object in [5, 6] {
+            let mut line = l_with_entry([object, mode, if mode == 1 { 0 } else { 3 }]);
+            line[5 + 3 * (object - 1)] = 1;
+            assert_eq!(load_check(&line), 6, "descriptor {object} by mode {mode}");
+        }
+    }
+}
+
+#[test]
+fn what_a_hardcoded_value_puts_is_asked_by_3() {
+    for stored in 0..=50 {
+        for mode in [2, 3] {
+            let answer = if stored <= 5 { 0 } else { 3 };
+            assert_eq!(load_check(&l_with_entry([2, mode, stored])), answer, "{stored} by mode {mode}");
+            let others = if stored <= 5 { 6 } else { 3 };
+            assert_eq!(load_check(&l_with_entry([4, mode, stored])), others, "another's: {stored} by mode {mode}");
+        }
+        assert_eq!(load_check(&l_with_entry([2, 1, stored])), if stored == 0 { 0 } else { 3 }, "{stored} by mode 1");
+        assert_eq!(load_check(&l_with_entry([6, 2, stored])), if stored == 0 { 6 } else { 3 }, "{stored} into kind 3");
+    }
+}
+
+/// R's line: device 1 puts value 3 into its descriptor, which names the external object 5.
+#[test]
+fn question_21_comes_last() {
+    let mut desk = Desk::new(&l_with_entry([2, 3, 3]));
+    desk.accept(&[&[5, 1], &[5, 2], &[5, 3], &[6, 3], &[9, 1, 1, 5]]);
+    let mut refused = |record: &[usize], number: u32| assert_eq!(desk.numbers(record), number, "{record:?}");
+    refused(&[8, 1, 2, 0], 10);
+    refused(&[8, 3, 2], 11);
+    refused(&[8, 1, 64], 11);
+    refused(&[8, 1, 3], 14);
+    refused(&[8, 1, 4], 14);
+    refused(&[8, 1, 2], 21);
+    desk.accept(&[&[8, 1, 1]]);
+    // Device 1 would be outside in any partition but 1, were it asked.
+    for (record, number) in [(&[8, 1, 2][..], 16), (&[8, 1, 1], 16), (&[8, 1, 4], 14), (&[8, 1, 3], 14)] {
+        assert_eq!(desk.numbers(record), number, "{record:?}");
+    }
+    desk.accept(&[&[11, 1], &[12, 1, 1, 5]]);
+    assert_eq!(desk.numbers(&[8, 1, 1]), 21);
+    assert_eq!(desk.numbers(&[8, 1, 4]), 14);
+    assert_eq!(desk.numbers(&[7, 1, 1]), 0, "it is not put to drivers");
+    assert_eq!(desk.numbers(&[8, 2, 1]), 0, "nor is what an inactive device could do in anyone's way");
 }
 
 /// The place of an object's record in the state area.
@@ -181,7 +242,7 @@ fn questions_11_to_20_of_a_record() {
 #[test]
 fn refusals_change_nothing_in_generated_calls() {
     let mut calls = Calls::new(11);
-    let mut seen = [0; 21];
+    let mut seen = [0; 22];
     for _ in 0..20_000 {
         let call = calls.next_call();
         let (number, state, answer) = run(&call);

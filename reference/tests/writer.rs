@@ -4,8 +4,7 @@ mod common;
 
 use common::file_l;
 use reference::generate::memories::{FAULTS, FIELDS, Field, broken, faulty, noisy, refused, shaken};
-use reference::generate::worlds::world;
-use reference::generate::{Rng, Size, World, drills};
+use reference::generate::{Rng, Size, World, drills, ringed};
 use reference::limits::{MAX_DEVICES, MAX_DRIVERS, MAX_ENTRIES, MAX_OBJECTS, MAX_VALUES};
 use reference::tokens::row;
 use reference::{Memory, Written, coded, load, load_check, rewrite, rewriting, write};
@@ -21,7 +20,7 @@ fn worlds(seed: u64, count: u64) -> impl Iterator<Item = World> {
     (0..count).map(move |part| {
         let mut rng = Rng::part(seed, part);
         let size = Size::any(&mut rng);
-        if part % 10 == 9 { drills::any(&mut rng).world } else { world(&mut rng, size) }
+        if part % 10 == 9 { drills::any(&mut rng).world } else { ringed(&mut rng, size) }
     })
 }
 

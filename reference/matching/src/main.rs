@@ -19,8 +19,8 @@ use walks::Walks;
 
 const USAGE: &str = "usage: matching [--calls N] [--seed S]";
 
-/// The numbers that a call can answer: 0 to 20.
-const NUMBERS: usize = 21;
+/// The numbers that a call can answer: 0 to 21.
+const NUMBERS: usize = 22;
 
 fn main() -> ExitCode {
     match options() {

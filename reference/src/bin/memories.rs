@@ -5,9 +5,7 @@
 
 use reference::Memory;
 use reference::generate::memories::cases;
-use reference::generate::stored::MOST_INPUT;
-use reference::generate::worlds::world;
-use reference::generate::{Rng, Size};
+use reference::generate::{Rng, Size, ringed};
 use reference::memory::{OBJECT_PLACES, SMALL_OBJECT_PLACES};
 use std::io::Write;
 use std::process::ExitCode;
@@ -15,6 +13,9 @@ use std::process::ExitCode;
 /// What a case of the writer begins with: the columns for objects have the places of small configurations, or all.
 const WRITE_SMALL: u8 = 7;
 const WRITE: u8 = 11;
+
+/// What a program `vectors` takes in.
+const MOST_INPUT: usize = 131_072;
 
 /// How much longer than the file the longest area is.
 const SPARE: usize = 40;
@@ -40,7 +41,7 @@ fn input(seed: u64) -> Vec<u8> {
     for part in 0.. {
         let mut rng = Rng::part(seed, part);
         let size = Size::any(&mut rng);
-        let world = world(&mut rng, size);
+        let world = ringed(&mut rng, size);
         for memory in cases(&mut rng, &Memory::of(&world.config)) {
             let small = !world.config.is_wide() && rng.percent(40);
             let case = case(&mut rng, &memory, world.line.len(), small);

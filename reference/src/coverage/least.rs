@@ -3,14 +3,20 @@
 use super::chains::{ORDERS, Order};
 use super::wide::Wide;
 use super::{Coverage, LONGEST, Noticed};
-use crate::faults::Fault;
+use crate::faults::{Fault, LOADERS};
 use crate::generate::worlds::WIDE_COUNTS;
 use std::fmt;
 
 /// Chains of each length: those that cross, in each order, and those that end at what leaves.
 const CHAINS: usize = 2;
 /// Refusals by a number of a code.
-const REFUSED: [(u8, usize, usize); 5] = [(19, 1, 300), (19, 3, 100), (20, 10, 30), (20, 11, 30), (20, 12, 30)];
+const REFUSED: [(u8, usize, usize); 6] =
+    [(19, 1, 300), (19, 3, 100), (20, 10, 30), (20, 11, 30), (20, 12, 30), (21, 8, 100)];
+/// Rings whose chains leave after so many steps: each step is a descriptor write, and the chain is one longer.
+const STEPS: [usize; 3] = [1, 2, 10];
+const RINGS: usize = 5;
+/// Files that a faulty question 6 answers in another way.
+const FILES: usize = 3;
 /// Calls that notice a fault, for each right answer that must show it.
 const CALLS: usize = 5;
 /// In wide configurations: cases with each count of objects, refusals, accepted records that name an object with a
@@ -65,9 +71,22 @@ impl Coverage {
         REFUSED.into_iter().map(row).collect()
     }
 
-    /// All rows but those of the faults.
+    fn ring_rows(&self) -> Vec<Row> {
+        let steps = STEPS.into_iter().map(|steps| {
+            let count = self.entering.get(&(steps + 1)).copied().unwrap_or(0);
+            Row { name: format!("rings that leave after {steps} steps"), count, least: RINGS }
+        });
+        let files = LOADERS.into_iter().zip(self.loaded).map(|((name, _), count)| Row {
+            name: format!("cases that notice '{name}'"),
+            count,
+            least: FILES,
+        });
+        steps.chain(files).collect()
+    }
+
+    /// All rows but those of the faulty judges.
     fn rows(&self) -> Vec<Row> {
-        [self.chain_rows(), self.refusal_rows(), self.wide.rows()].into_iter().flatten().collect()
+        [self.chain_rows(), self.refusal_rows(), self.ring_rows(), self.wide.rows()].into_iter().flatten().collect()
     }
 
     /// What is below its least, and what contradicts itself.

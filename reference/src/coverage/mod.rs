@@ -6,9 +6,9 @@ mod least;
 pub mod wide;
 
 use crate::closure::{closure, crosses};
-use crate::config::{Config, load};
+use crate::config::{Config, load, load_with};
 use crate::effect;
-use crate::faults::{self, Fault};
+use crate::faults::{self, Fault, LOADERS};
 use crate::gate::judge;
 use crate::generate::Folder;
 use crate::limits::MAX_VALUES;
@@ -45,13 +45,17 @@ pub struct Coverage {
     pub crossing: BTreeMap<(usize, Option<Order>), usize>,
     /// Chains to an entry that names what leaves, by length.
     pub leaving: BTreeMap<usize, usize>,
-    /// Refusals by 19 of codes 1 and 3, and by 20 of codes 10, 11 and 12.
+    /// Chains to an entry that would cross with a device that comes in, by length.
+    pub entering: BTreeMap<usize, usize>,
+    /// Refusals by 19 of codes 1 and 3, by 20 of codes 10, 11 and 12, and by 21 of code 8.
     pub refused: BTreeMap<(u8, usize), usize>,
     /// What is shown of wide configurations.
     pub wide: Wide,
     /// Calls that the closure judges in one way and the search for the shortest chain in the other.
     pub contradictions: usize,
     pub noticed: Vec<Noticed>,
+    /// Cases whose file a faulty question 6 (`faults::LOADERS`) answers in another way, in the order of these.
+    pub loaded: [usize; LOADERS.len()],
 }
 
 /// A call on the right state, and what came of it.
@@ -71,12 +75,15 @@ impl Coverage {
             calls: 0,
             crossing: BTreeMap::new(),
             leaving: BTreeMap::new(),
+            entering: BTreeMap::new(),
             refused: BTreeMap::new(),
             wide: Wide::default(),
             contradictions: 0,
             noticed: noticed.collect(),
+            loaded: [0; LOADERS.len()],
         };
         for case in cases {
+            coverage.count_loaders(&case.line);
             if let Ok(config) = load(&case.line) {
                 coverage.count(&config, &calls(&config, &case.session));
             }
@@ -95,13 +102,21 @@ impl Coverage {
         }
     }
 
-    /// The chain behind a refusal by 19 or 20; there is none behind any other call that these questions were put to.
+    /// A file that is refused in another way prints another text.
+    fn count_loaders(&mut self, line: &[u8]) {
+        let right = load(line).err();
+        for (count, (_, question)) in self.loaded.iter_mut().zip(LOADERS) {
+            *count += usize::from(load_with(question, line).err() != right);
+        }
+    }
+
+    /// The chain behind a refusal by 19 to 21; there is none behind any other call that these questions were put to.
     fn count_chain(&mut self, config: &Config, call: &Call) {
-        let Some(operation) = operation::read(call.record).filter(|_| matches!(call.number, 0 | 19 | 20)) else {
+        let Some(operation) = operation::read(call.record).filter(|_| matches!(call.number, 0 | 19..=21)) else {
             return;
         };
         let chain = match operation.code() {
-            1 | 3 => chain_to_crossing(config, &call.before, &operation),
+            1 | 3 | 8 => chain_to_crossing(config, &call.before, &operation),
             10..=12 => chain_to_leaving(config, &call.before, &operation),
             _ => None,
         };
@@ -115,6 +130,7 @@ impl Coverage {
         match (chain, call.number) {
             (Some(chain), 19) => *self.crossing.entry((chain.length, chain.order())).or_default() += 1,
             (Some(chain), 20) => *self.leaving.entry(chain.length).or_default() += 1,
+            (Some(chain), 21) => *self.entering.entry(chain.length).or_default() += 1,
             _ => (),
         }
     }

@@ -33,10 +33,10 @@ impl Wide {
         }
     }
 
-    /// Takes in the chain behind a refusal by 19 or 20.
+    /// Takes in the chain behind a refusal by 19 to 21.
     pub fn count_chain(&mut self, chain: &Chain, number: u8) {
         if chain.descriptors.iter().any(|object| *object > MAX_ONE_BYTE) {
-            let lengths = if number == 19 { &mut self.crossing } else { &mut self.leaving };
+            let lengths = if number == 20 { &mut self.leaving } else { &mut self.crossing };
             lengths.push(chain.length);
         }
     }

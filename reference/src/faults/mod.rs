@@ -3,9 +3,12 @@
 //! shows a state area that is broken, so walks over one (`walks`) stand beside these judges.
 
 mod answers;
+mod rings;
 mod searches;
 pub mod walks;
 mod wide;
+
+pub use rings::{LOADERS, UNREACHED};
 
 use crate::closure::{Search, closure, limited};
 use crate::config::Config;
@@ -15,6 +18,7 @@ use crate::limits::{MAX_ONE_BYTE, SMALL_ROOM};
 use crate::operation::{self, Operation};
 use crate::questions::{Case, QUESTIONS, Question};
 use crate::state::State;
+use rings::RINGS;
 
 /// What makes the state that follows.
 type Apply = fn(&Config, &State, &Operation) -> State;
@@ -42,6 +46,8 @@ pub struct Fault {
     objects: usize,
     search: Search,
     instead: Option<(u8, Question)>,
+    /// The question that 21 is put before.
+    early: Option<u8>,
     apply: Apply,
     taken: Option<Taken>,
     named: Named,
@@ -58,6 +64,7 @@ const NONE: Fault = Fault {
     objects: 0,
     search: closure,
     instead: None,
+    early: None,
     apply: effect::apply,
     taken: None,
     named: |operation| operation,
@@ -65,7 +72,7 @@ const NONE: Fault = Fault {
 };
 
 const fn search(name: &'static str, search: Search) -> Fault {
-    Fault { name, codes: &[1, 3, 10, 11, 12], touches: &[19, 20], search, ..NONE }
+    Fault { name, codes: &[1, 3, 8, 10, 11, 12], touches: &[19, 20, 21], search, ..NONE }
 }
 
 /// Question 18 put wrongly: it passes what it should refuse (18), or the other way round (0).
@@ -169,7 +176,7 @@ const OTHERS: [Fault; 7] = [
 /// A fault of wide configurations with at least so many objects: it can touch everything, and accepted calls show it.
 const fn wide(name: &'static str, objects: usize) -> Fault {
     const CODES: &[usize] = &[1, 2, 3, 4, 5, 6, 7, 8, 9, 10, 11, 12];
-    const ANSWERS: &[u8] = &[0, 10, 11, 12, 13, 14, 15, 16, 17, 18, 19, 20];
+    const ANSWERS: &[u8] = &[0, 10, 11, 12, 13, 14, 15, 16, 17, 18, 19, 20, 21];
     Fault { name, codes: CODES, touches: ANSWERS, asked: &[0], objects, ..NONE }
 }
 
@@ -199,9 +206,9 @@ const WIDE: [Fault; 7] = [
     },
 ];
 
-/// All faults.
+/// All faults that sessions notice.
 pub fn all() -> Vec<Fault> {
-    [&SEARCHES[..], &DESCRIBED, &OTHERS, &WIDE].concat()
+    [&SEARCHES[..], &DESCRIBED, &OTHERS, &WIDE, &RINGS].concat()
 }
 
 impl Fault {
@@ -218,7 +225,7 @@ impl Fault {
     }
 }
 
-/// Questions 10 to 20 as the faulty judge puts them, for a well formed state; a file that it refuses is refused at
+/// Questions 10 to 21 as the faulty judge puts them, for a well formed state; a file that it refuses is refused at
 /// every call.
 pub fn judge(fault: &Fault, config: &Config, state: &State, record: &[u8]) -> Judgement {
     let taken = fault.taken.map(|taken| taken(config)).transpose()?;
@@ -227,11 +234,21 @@ pub fn judge(fault: &Fault, config: &Config, state: &State, record: &[u8]) -> Ju
     let state = kept.as_ref().unwrap_or(state);
     let operation = (fault.named)(operation::read(record).ok_or(10)?);
     let case = Case { config, state, operation: &operation, search: fault.search };
-    for (number, plain) in QUESTIONS {
+    for (number, plain) in order(fault) {
         let question = fault.instead.filter(|(instead, _)| *instead == number).map_or(plain, |(_, question)| question);
         if !question(&case) {
             return Err(number);
         }
     }
     Ok(((fault.apply)(config, state, &operation), effect::answers(state, &operation)))
+}
+
+/// The questions in the order in which the faulty judge asks them.
+fn order(fault: &Fault) -> Vec<(u8, Question)> {
+    let mut list = QUESTIONS.to_vec();
+    let place = list.iter().position(|(number, _)| fault.early == Some(*number));
+    if let Some(place) = place {
+        list[place..].rotate_right(1);
+    }
+    list
 }

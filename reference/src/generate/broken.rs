@@ -1,5 +1,6 @@
 //! Malformed input: configuration files that break questions 1 to 6, records that break question 10.
 
+use super::rings;
 use super::rng::Rng;
 use super::worlds::World;
 use crate::config::{Config, Entry, Kind, Object, Owner, load};
@@ -37,12 +38,34 @@ fn unfinished(rng: &mut Rng) -> Vec<u8> {
 
 /// A file that question `number`, 1 to 6, refuses if one of a few attempts does it; else the last attempt.
 pub fn line(rng: &mut Rng, world: &World, number: u8) -> Vec<u8> {
-    let mut line = attempt(rng, world, number);
+    // Half of the files for question 6 have a sound hardcoded value with one entry too many.
+    if number == 6 && rng.percent(50) {
+        let line = rings::with_stray(rng, world).line;
+        if line != world.line {
+            return line;
+        }
+    }
+    first_that(|line| load(line).err() == Some(number), || attempt(rng, world, number))
+}
+
+/// The same for the cases that were stored before devices had rings, which are to stay as they are: a file in which a
+/// hardcoded value writes a descriptor was refused by 6 then, and is accepted now.
+pub fn line_of_before(rng: &mut Rng, world: &World, number: u8) -> Vec<u8> {
+    let refused = |line: &[u8]| match load(line) {
+        Err(refusal) => refusal == number,
+        Ok(config) => number == 6 && config.has_rings(),
+    };
+    first_that(refused, || attempt(rng, world, number))
+}
+
+/// The first of a few attempts that will do, or the last of them.
+fn first_that(will_do: impl Fn(&[u8]) -> bool, mut attempt: impl FnMut() -> Vec<u8>) -> Vec<u8> {
+    let mut line = attempt();
     for _ in 0..TRIES {
-        if load(&line).err() == Some(number) {
+        if will_do(&line) {
             break;
         }
-        line = attempt(rng, world, number);
+        line = attempt();
     }
     line
 }

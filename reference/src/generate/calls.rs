@@ -5,6 +5,7 @@ use super::areas;
 use super::broken;
 use super::drills;
 use super::records::{self, Want};
+use super::rings::ringed;
 use super::rng::Rng;
 use super::worlds::{Size, World, world};
 use crate::config::load;
@@ -86,7 +87,7 @@ impl Calls {
             (self.world, self.drill) = (drill.world, drill.records.into());
         } else {
             let size = Size::any(&mut self.rng);
-            self.world = world(&mut self.rng, size);
+            self.world = ringed(&mut self.rng, size);
         }
         self.operations = self.drill.len() + self.rng.between(5, 70) + self.world.config.objects.len();
         let line = self.world.line.clone();
@@ -156,7 +157,7 @@ impl Calls {
         if let Some(record) = self.drill.pop_front() {
             return Call { function: Function::Operate, line, state: area, record, answer, carried: true };
         }
-        let want = Want::any(&mut self.rng);
+        let want = Want::any(&mut self.rng, &self.world);
         let record = records::record(&mut self.rng, &self.world, &state, want);
         let mut call = Call { function: Function::Operate, line, state: area, record, answer, carried: false };
         match self.rng.weighted(&[80, 3, 3, 6, 8]) {
@@ -169,7 +170,8 @@ impl Calls {
             3 => call.state = areas::broken(&mut self.rng, &self.world.config, &state),
             _ => {
                 let state = areas::scrambled(&mut self.rng, &self.world.config);
-                let want = [Want::Accepted, Want::Refused(18), Want::Refused(20), want][self.rng.below(4)];
+                let refused = Want::Refused([18, 20, 21][self.rng.below(3)]);
+                let want = [Want::Accepted, refused, want][self.rng.weighted(&[20, 60, 20])];
                 call.state = state.to_bytes();
                 call.record = records::record(&mut self.rng, &self.world, &state, want);
             }

@@ -143,22 +143,22 @@ fn break_hardcoded(rng: &mut Rng, memory: &Memory) -> Option<Memory> {
         value => value,
     };
     let forbidden: Vec<(u8, u8)> = (1..=memory.objects)
+        .filter(|object| is_forbidden(&memory, device, usize::from(*object)))
         .flat_map(|object| [(object, 1), (object, 2), (object, 3)])
-        .filter(|(object, mode)| is_forbidden(&memory, device, *object, *mode))
         .collect();
     let (object, mode) = rng.pick(&forbidden)?;
+    let stored = if takes_value(&memory, object, mode) { rng.between(0, usize::from(memory.values)) as u8 } else { 0 };
     let count = usize::from(memory.count[value]);
     let place = if count < MAX_ENTRIES { rng.between(1, count + 1) } else { rng.between(1, count) };
     memory.count[value] = count.max(place) as u8;
-    memory.set_entry(value, place, [object, mode, 0]);
+    memory.set_entry(value, place, [object, mode, stored]);
     memory.hardcoded[device] = value as u8;
     Some(memory)
 }
 
-fn is_forbidden(memory: &Memory, device: usize, object: u8, mode: u8) -> bool {
-    let object = usize::from(object);
+fn is_forbidden(memory: &Memory, device: usize, object: usize) -> bool {
     let own = memory.class[object] == 2 && usize::from(memory.owner[object]) == device;
-    !own || memory.kind[object] == 4 || (memory.kind[object] == 1 && mode != 1)
+    !own || memory.kind[object] == 4
 }
 
 /// The same configuration with any bytes in the places that name nothing: place 0, those past the counts, and entries

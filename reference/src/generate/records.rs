@@ -12,8 +12,9 @@ use crate::state::State;
 /// How often a proposal is made anew when it does not get the number that is wanted.
 const TRIES: usize = 12;
 
-/// The refusals that a record can get; those that need a search stand here more than once.
-const REFUSALS: [u8; 15] = [10, 11, 12, 13, 14, 15, 16, 17, 18, 18, 19, 19, 19, 20, 20];
+/// The refusals that a record can get; those that need a search stand here more than once. The last ones need a ring.
+const REFUSALS: [u8; 17] = [10, 11, 12, 13, 14, 15, 16, 17, 18, 18, 19, 19, 19, 20, 20, 21, 21];
+const WITHOUT_RING: usize = 15;
 
 /// What a record is to be.
 #[derive(Clone, Copy, Debug, PartialEq, Eq)]
@@ -25,10 +26,11 @@ pub enum Want {
 
 impl Want {
     /// 60 in 100 accepted, 28 refused by a number, 12 random.
-    pub fn any(rng: &mut Rng) -> Want {
+    pub fn any(rng: &mut Rng, world: &World) -> Want {
+        let refusals = if world.config.has_rings() { &REFUSALS[..] } else { &REFUSALS[..WITHOUT_RING] };
         match rng.weighted(&[60, 28, 12]) {
             0 => Want::Accepted,
-            1 => Want::Refused(REFUSALS[rng.below(REFUSALS.len())]),
+            1 => Want::Refused(refusals[rng.below(refusals.len())]),
             _ => Want::Random,
         }
     }

@@ -5,10 +5,10 @@ use super::names::{Name, names};
 use crate::closure::{closure, entries};
 use crate::config::{Entry, Kind, Owner};
 use crate::operation::{Actor, Copying, Item, Operation, Put};
-use crate::state::EXISTING;
+use crate::state::{EXISTING, NONE};
 
 impl Scene<'_> {
-    /// An operation that question `number`, 11 to 20, is likely to refuse.
+    /// An operation that question `number`, 11 to 21, is likely to refuse.
     pub fn likely_refused(&mut self, number: u8) -> Operation {
         match number {
             11 => self.with_unknown_name(),
@@ -20,7 +20,8 @@ impl Scene<'_> {
             17 => self.with_objects_elsewhere(),
             18 => self.undescribed(),
             19 => self.crossing(),
-            _ => self.leaving(),
+            20 => self.leaving(),
+            _ => self.entering(),
         }
     }
 
@@ -268,6 +269,19 @@ impl Scene<'_> {
             },
         };
         operation.unwrap_or_else(|| self.anything())
+    }
+
+    /// An inactive device brought in somewhere, mostly one with a ring.
+    fn entering(&mut self) -> Operation {
+        let config = &self.world.config;
+        let absent: Vec<usize> = (1..=config.devices()).filter(|device| self.state.device(*device) == NONE).collect();
+        let ringed: Vec<usize> = absent.iter().copied().filter(|device| config.has_ring(*device)).collect();
+        let device = self.rng.pick(&ringed).filter(|_| self.rng.percent(80)).or_else(|| self.rng.pick(&absent));
+        let partition = self.existing();
+        match device {
+            Some(device) => Operation::Activate { actor: Actor::Device(device), partition },
+            None => self.leave(Actor::Device).unwrap_or_else(|| self.anything()),
+        }
     }
 
     /// The deactivation that an object is concerned by.

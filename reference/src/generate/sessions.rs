@@ -2,6 +2,7 @@
 
 use super::broken;
 use super::records::{self, Want};
+use super::rings::ringed;
 use super::rng::Rng;
 use super::worlds::{Size, World, world};
 use crate::closure::closure;
@@ -24,15 +25,28 @@ pub enum End {
     Cut,
 }
 
-/// A folder of this size with about `records` records; `focus` is a number to see often.
+/// What breaks a world's file for a question.
+type Breaking = fn(&mut Rng, &World, u8) -> Vec<u8>;
+
+/// A folder of this size with about `records` records; `focus` is a number to see often. Some lines have rings.
 pub fn folder(rng: &mut Rng, size: Size, records: usize, focus: Option<u8>) -> Folder {
+    let world = ringed(rng, size);
+    folder_over(rng, &world, records, focus, broken::line)
+}
+
+/// The same without rings, as it was before there were any.
+pub fn folder_of_before(rng: &mut Rng, size: Size, records: usize, focus: Option<u8>) -> Folder {
     let world = world(rng, size);
+    folder_over(rng, &world, records, focus, broken::line_of_before)
+}
+
+fn folder_over(rng: &mut Rng, world: &World, records: usize, focus: Option<u8>, breaking: Breaking) -> Folder {
     let line = match focus {
-        Some(number @ 1..=6) => broken::line(rng, &world, number),
+        Some(number @ 1..=6) => breaking(rng, world, number),
         _ => world.line.clone(),
     };
     let end = if rng.percent(8) { End::Cut } else { End::Whole };
-    let session = session(rng, &world, records, focus, end);
+    let session = session(rng, world, records, focus, end);
     Folder { line, session }
 }
 
@@ -42,8 +56,8 @@ pub fn session(rng: &mut Rng, world: &World, records: usize, focus: Option<u8>, 
     let mut out = Vec::new();
     for place in 0..records {
         let want = match focus {
-            Some(number @ 10..=20) if place * 2 > records && rng.percent(30) => Want::Refused(number),
-            _ => Want::any(rng),
+            Some(number @ 10..=21) if place * 2 > records && rng.percent(30) => Want::Refused(number),
+            _ => Want::any(rng, world),
         };
         let record = records::record(rng, world, &state, want);
         if let Ok((next, _)) = judge(closure, &world.config, &state, &record) {

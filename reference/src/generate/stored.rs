@@ -2,14 +2,14 @@
 //! length (two bytes each, lowest first), the line's bytes, the session's bytes. The output expected is, for each case,
 //! the report and a line with a dot.
 
+use super::corners::{corners, file_l, ring_corners};
 use super::drills;
 use super::rng::Rng;
-use super::sessions::{Folder, folder};
+use super::sessions::{Folder, folder, folder_of_before};
 use super::worlds::Size;
+use crate::config::load;
 use crate::limits::{LINE_LIMIT, SESSION_LIMIT};
 use crate::office::report;
-use crate::tokens::row;
-use crate::varint;
 use std::fmt;
 
 /// The stored cases and what they show.
@@ -25,17 +25,19 @@ pub struct Stored {
 pub struct Tally {
     pub cases: usize,
     /// Refused files and rows, by number.
-    pub numbers: [usize; 21],
+    pub numbers: [usize; 22],
     pub cut: usize,
     pub long: usize,
     pub silent: usize,
 }
 
-/// The most bytes of input: what the program that is given the stored cases takes in.
-pub const MOST_INPUT: usize = 131_072;
+/// The most bytes of input: what the program that is given the stored cases takes in, 160 KiB.
+pub const MOST_INPUT: usize = 163_840;
 
-/// What a session can show: files refused by 1 to 6, rows 0 and 10 to 20.
-pub const SHOWN: [usize; 18] = [0, 1, 2, 3, 4, 5, 6, 10, 11, 12, 13, 14, 15, 16, 17, 18, 19, 20];
+/// What a session can show: files refused by 1 to 6, rows 0 and 10 to 21.
+pub const SHOWN: [usize; 19] = [0, 1, 2, 3, 4, 5, 6, 10, 11, 12, 13, 14, 15, 16, 17, 18, 19, 20, 21];
+/// How many of them a session shows over a line without rings.
+const SHOWN_WITHOUT_RING: usize = 18;
 
 impl Tally {
     fn count(&mut self, report: &str) {
@@ -93,13 +95,38 @@ pub fn cases(mut input: &[u8]) -> Option<Vec<Folder>> {
     Some(list)
 }
 
-/// Cases as in `stored`, and the drills behind them.
+/// Cases as in `stored`, and behind them the drills, then cases of devices with rings.
 pub fn with_drills(seed: u64, count: usize, bytes: usize) -> Stored {
     let mut stored = stored(seed, count, bytes);
     for (point, _) in drills::POINTS {
         drills::stored(seed, point).iter().for_each(|drill| stored.push(&drill.folder()));
     }
+    ring_corners().iter().for_each(|folder| stored.push(folder));
+    (0..RING_CASES).for_each(|case| stored.push(&ring_folder(seed, case)));
     stored
+}
+
+/// How many generated cases have devices with rings, where their random source begins, and how long they are at most.
+pub const RING_CASES: usize = 24;
+const RING_PART: usize = 100_000;
+const RING_BYTES: usize = 600;
+
+/// A generated case in which a device has a ring; every third has a file that question 6 refuses by such a device.
+fn ring_folder(seed: u64, case: usize) -> Folder {
+    let mut rng = Rng::part(seed, (RING_PART + case) as u64);
+    let focus = [21, 21, 6][case % 3];
+    loop {
+        let size = [Size::Tiny, Size::Small, Size::Medium][rng.weighted(&[20, 65, 15])];
+        let records = if focus == 6 { 3 } else { rng.between(20, 40) };
+        let folder = folder(&mut rng, size, records, Some(focus));
+        let fits = match load(&folder.line) {
+            Ok(config) => focus != 6 && config.has_rings(),
+            Err(number) => number == focus,
+        };
+        if fits && folder.line.len() + folder.session.len() <= RING_BYTES {
+            return folder;
+        }
+    }
 }
 
 /// `count` cases in at most `bytes` bytes of input: corners first, then generated ones.
@@ -118,12 +145,12 @@ pub fn stored(seed: u64, count: usize, bytes: usize) -> Stored {
 /// A generated case of at most twice its share of the bytes left.
 fn small_folder(seed: u64, case: usize, share: usize) -> Option<Folder> {
     let mut rng = Rng::part(seed, case as u64);
-    let focus = rng.percent(75).then(|| SHOWN[case % SHOWN.len()] as u8);
+    let focus = rng.percent(75).then(|| SHOWN[case % SHOWN_WITHOUT_RING] as u8);
     (0..40).find_map(|turn| {
         let tiny = if focus.is_some_and(|number| number >= 18) { 0 } else { 20 + turn };
         let size = [Size::Tiny, Size::Small, Size::Medium, Size::Full][rng.weighted(&[tiny, 60, 12, 3])];
         let records = rng.between(if turn < 20 { 12 } else { 0 }, 36);
-        let folder = folder(&mut rng, size, records, focus);
+        let folder = folder_of_before(&mut rng, size, records, focus);
         let room = if matches!(size, Size::Tiny | Size::Small) { 2 * share } else { 6 * share };
         (4 + folder.line.len() + folder.session.len() <= room).then_some(folder)
     })
@@ -138,83 +165,4 @@ pub fn long() -> [Folder; 3] {
         Folder { line: file_l(), session: session.clone() },
         Folder { line: Vec::new(), session },
     ]
-}
-
-/// Document 01's file L.
-fn file_l() -> Vec<u8> {
-    let objects = [4, 2, 1, 1, 2, 1, 4, 2, 2, 1, 2, 2, 3, 0, 0, 3, 1, 1];
-    let values = [1, 2, 1, 0, 1, 4, 1, 0, 1, 5, 2, 0, 1, 4, 2, 3, 1, 2, 2, 4];
-    row(&[&[1, 2, 2, 6, 5][..], &objects, &[1, 2], &values].concat())
-}
-
-/// Cases that are worth having whatever the seed is.
-fn corners() -> Vec<Folder> {
-    [corner_sessions(), corner_lines()].concat()
-}
-
-fn corner_sessions() -> Vec<Folder> {
-    let over_l = |session: &[u8]| Folder { line: file_l(), session: session.to_vec() };
-    let of_length = |length: usize, there: usize| {
-        let mut session = vec![2, 5, 1];
-        varint::write(length, &mut session);
-        session.extend(std::iter::repeat_n(1, there));
-        over_l(&session)
-    };
-    vec![
-        over_l(&[]),
-        over_l(&[2, 5, 1, 2, 5, 1, 2, 6, 1, 2, 5, 1]),
-        sequence_p(),
-        over_l(&[0, 2, 5, 1, 0]),
-        of_length(127, 127),
-        of_length(127, 126),
-        of_length(128, 128),
-        of_length(128, 127),
-        of_length(65_535, 40),
-        over_l(&[128]),
-        over_l(&[2, 5, 1, 130, 0, 5, 2]),
-        over_l(&[128, 128, 4]),
-        over_l(&[129, 128, 128, 0, 5]),
-        over_l(&[255, 255, 255, 255, 255]),
-    ]
-}
-
-fn corner_lines() -> Vec<Folder> {
-    let line = |line: &[u8]| Folder { line: line.to_vec(), session: vec![2, 5, 63] };
-    let values = |count: usize| line(&row(&[&[1, 0, 0, 0, count][..], &vec![0; count]].concat()));
-    vec![
-        Folder { line: Vec::new(), session: Vec::new() },
-        values(47),
-        values(48),
-        line(&[1, 0, 0, 0, 0]),
-        line(&[1, 0, 0, 0, 0, 128]),
-        line(&[1, 0, 0, 1, 0, 1, 1]),
-        line(&[1, 0, 0, 1, 0, 1, 1, 1]),
-        line(&[129, 0]),
-        line(&[1, 0, 0, 1, 0, 4, 0, 0]),
-    ]
-}
-
-/// The P sequence over L.
-fn sequence_p() -> Folder {
-    let records: [&[u8]; 17] = [
-        &[5, 1],
-        &[5, 2],
-        &[7, 1, 1],
-        &[8, 1, 1],
-        &[8, 2, 2],
-        &[9, 1, 1, 5],
-        &[1, 1, 1, 2, 0, 3],
-        &[4, 1, 1, 2, 4],
-        &[12, 1, 1, 5],
-        &[1, 1, 1, 2, 0, 4],
-        &[1, 1, 1, 2, 0, 5],
-        &[1, 1, 1, 4, 0, 3],
-        &[1, 1, 1, 1, 0, 0],
-        &[1, 2, 1, 2, 0, 0],
-        &[6, 2],
-        &[11, 2],
-        &[6, 2],
-    ];
-    let session = records.iter().flat_map(|record| [&[record.len() as u8][..], record].concat()).collect();
-    Folder { line: file_l(), session }
 }

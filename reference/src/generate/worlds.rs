@@ -59,6 +59,7 @@ struct Maker<'a> {
     free: Vec<usize>,
 }
 
+/// A world of this size in which no hardcoded value writes a descriptor; `rings` has the others.
 pub fn world(rng: &mut Rng, size: Size) -> World {
     let (drivers, devices, objects, values) = counts(rng, size);
     let mut zones: Vec<usize> = (1..=MAX_PARTITION).collect();

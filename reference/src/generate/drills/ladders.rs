@@ -24,7 +24,7 @@ pub const WAYS: [Way; 4] =
     [Way::Over(Numbering::Kept), Way::Over(Numbering::Reversed), Way::Over(Numbering::Shuffled), Way::Level];
 
 /// Values of which each puts the next into a descriptor that the device then reads; the last has no entries yet.
-fn chain(script: &mut Script, zone: &Zone, links: usize, way: Way) -> Vec<usize> {
+pub(super) fn chain(script: &mut Script, zone: &Zone, links: usize, way: Way) -> Vec<usize> {
     let values = script.values(links);
     let beside = script.plain(zone);
     for two in values.windows(2) {
@@ -47,7 +47,7 @@ fn link(script: &mut Script, object: usize, stored: usize) -> Vec<Entry> {
     }
 }
 
-fn ended(script: Script, way: Way) -> Drill {
+pub(super) fn ended(script: Script, way: Way) -> Drill {
     let objects = match way {
         Way::Over(numbering) => numbering,
         Way::Level => Numbering::Shuffled,

@@ -6,15 +6,17 @@ mod copies;
 mod ladders;
 mod leaving;
 pub mod numbers;
+mod rings;
 mod script;
 mod transfers;
 mod wide;
 
 use super::rng::Rng;
 use super::worlds::WIDE_COUNTS;
-use crate::limits::MAX_OBJECTS;
-use ladders::WAYS;
+use crate::limits::{MAX_OBJECTS, MAX_ONE_BYTE, MAX_VALUES};
+use ladders::{WAYS, Way};
 use numbers::Numbering;
+use rings::Leaving;
 pub use script::Drill;
 
 /// What a drill is for.
@@ -35,10 +37,18 @@ pub enum Point {
     WideChain,
     WideEdge,
     LastHardcoded,
+    RingLeaving,
+    RingInside,
+    RingUnread,
+    RingPair,
+    RingChoice,
+    RingOfSix,
+    RingReturns,
+    NoRing,
 }
 
 /// All points, and how many drills of each are stored. Those stored first keep their places when others are added.
-pub const POINTS: [(Point, usize); 15] = [
+pub const POINTS: [(Point, usize); 23] = [
     (Point::CrossingByWrite, 8),
     (Point::CrossingByCopy, 4),
     (Point::LeavingByChain, 8),
@@ -54,7 +64,18 @@ pub const POINTS: [(Point, usize); 15] = [
     (Point::WideChain, 1),
     (Point::WideEdge, 2),
     (Point::LastHardcoded, 1),
+    (Point::RingLeaving, 12),
+    (Point::RingInside, 3),
+    (Point::RingUnread, 3),
+    (Point::RingPair, 4),
+    (Point::RingChoice, 3),
+    (Point::RingOfSix, 3),
+    (Point::RingReturns, 3),
+    (Point::NoRing, 1),
 ];
+
+/// The points of devices with rings come last.
+const BEFORE_RINGS: usize = 15;
 
 /// A drill for a point; `turn` goes through the point's ways.
 fn drill(rng: &mut Rng, point: Point, turn: usize) -> Drill {
@@ -77,8 +98,37 @@ fn drill(rng: &mut Rng, point: Point, turn: usize) -> Drill {
         Point::WideChain => wide_chain(rng, turn),
         Point::WideEdge => wide::edge(rng, [first_of_two_bytes, one_absent, most, fewest][turn % 4]),
         Point::LastHardcoded => wide::last_hardcoded(rng, [fewest, most, first_of_two_bytes, one_absent][turn % 4]),
+        Point::RingLeaving => rings::leaving(rng, LEAVING[turn % LEAVING.len()]),
+        Point::RingInside => rings::inside(rng, 1 + turn % 4),
+        Point::RingUnread => rings::unread(rng),
+        Point::RingPair => rings::pair(rng, 1 + turn % 4),
+        Point::RingChoice => rings::choice(rng),
+        Point::RingOfSix => rings::of_six(rng),
+        Point::RingReturns => rings::returning(rng),
+        Point::NoRing => rings::none(rng),
     }
 }
+
+const fn leaving(steps: usize, way: Way, behind: usize) -> Leaving {
+    Leaving { steps, way, behind }
+}
+
+/// Rings whose chains leave: after 1, 2 and 10 steps, after so many that no short search finds it, and through objects
+/// whose numbers have two bytes.
+const LEAVING: [Leaving; 12] = [
+    leaving(1, Way::Level, 0),
+    leaving(2, Way::Over(Numbering::Kept), 0),
+    leaving(10, Way::Over(Numbering::Reversed), 0),
+    leaving(1, Way::Level, 0),
+    leaving(2, Way::Level, 0),
+    leaving(10, Way::Over(Numbering::Shuffled), 0),
+    leaving(3, Way::Over(Numbering::Kept), MAX_ONE_BYTE),
+    leaving(22, Way::Over(Numbering::Shuffled), 0),
+    leaving(MAX_VALUES - 1, Way::Over(Numbering::Reversed), 0),
+    leaving(MAX_VALUES - 1, Way::Over(Numbering::Kept), 0),
+    leaving(30, Way::Over(Numbering::Reversed), 0),
+    leaving(30, Way::Over(Numbering::Kept), 0),
+];
 
 /// The longest chain that is asked for through the most objects, its last descriptor before the last object; then
 /// others.
@@ -102,7 +152,16 @@ pub fn stored(seed: u64, point: Point) -> Vec<Drill> {
 
 /// Any drill.
 pub fn any(rng: &mut Rng) -> Drill {
-    let (point, _) = POINTS[rng.below(POINTS.len())];
+    any_of(rng, &POINTS)
+}
+
+/// Any drill with a ring, or with a device that could have one.
+pub fn any_ring(rng: &mut Rng) -> Drill {
+    any_of(rng, &POINTS[BEFORE_RINGS..])
+}
+
+fn any_of(rng: &mut Rng, points: &[(Point, usize)]) -> Drill {
+    let (point, _) = points[rng.below(points.len())];
     let turn = rng.below(24);
     drill(rng, point, turn)
 }

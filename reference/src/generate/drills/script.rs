@@ -151,9 +151,21 @@ impl Script<'_> {
 
     /// Creates all partitions and brings everything in that is not meant to be in none.
     pub fn open(&mut self) {
+        self.create();
+        let mut inside = self.entering();
+        self.rng.shuffle(&mut inside);
+        self.operations.extend(inside);
+    }
+
+    /// Creates all partitions.
+    pub fn create(&mut self) {
+        let zones = self.world.zones.iter();
+        self.operations.extend(zones.map(|partition| Operation::Create { partition: *partition }));
+    }
+
+    /// What brings in all that is not meant to be in none.
+    pub fn entering(&self) -> Vec<Operation> {
         let world = &self.world;
-        let mut list: Vec<Operation> =
-            world.zones.iter().map(|partition| Operation::Create { partition: *partition }).collect();
         let mut inside = Vec::new();
         for (homes, who) in [(&world.drivers, Actor::Driver as fn(usize) -> Actor), (&world.devices, Actor::Device)] {
             for (place, partition) in homes.iter().enumerate() {
@@ -168,9 +180,7 @@ impl Script<'_> {
                 inside.push(Operation::ActivateExternal { partition: *partition, objects: objects.to_vec() });
             }
         }
-        self.rng.shuffle(&mut inside);
-        list.extend(inside);
-        self.operations.extend(list);
+        inside
     }
 
     /// A driver's write of values.
