@@ -133,9 +133,41 @@ fn cases_that_are_none() {
         (9, operated(&file_l(), 1_728, &[(1_728, 1)])),
         (9, operated(&file_l(), 0, &[(0, 0)])),
         (0, vec![]),
-        (13, operated(&file_l(), 1_728, &[])),
+        (14, operated(&file_l(), 1_728, &[])),
     ];
     assert_eq!(rows(&others), [NONE; 5]);
+}
+
+/// A record after its length, then a file and an area.
+fn with_record(record: &[u8], line: &[u8], patches: &[(usize, u8)]) -> Vec<u8> {
+    [&two(record.len())[..], record, &operated(line, 1_728, patches)].concat()
+}
+
+fn area_with(patches: &[(usize, u8)]) -> Vec<u8> {
+    let mut area = vec![0; 1_728];
+    patches.iter().for_each(|(place, byte)| area[*place] = *byte);
+    area
+}
+
+#[test]
+fn an_operation_with_a_given_record() {
+    // Device 2 is in partition 2, object 5 in partition 1; the values of the hardcoded descriptors stand as in a file.
+    let standings = [(1, 1), (2, 1), (81, 2), (97, 1), (130, 2), (131, 2), (147, 2), (164, 1)];
+    let of_l = |record: &[u8], more: &[(usize, u8)]| {
+        let patches = [&standings[..], more].concat();
+        (row(13, with_record(record, &file_l(), &patches)), checksum(&area_with(&patches)))
+    };
+    // No list of calls puts value 3, which names object 5, into device 2's descriptor. Device 1 is harmless.
+    let (refused, before) = of_l(&[8, 1, 1], &[(148, 3)]);
+    assert_eq!(refused, (21, before));
+    for (record, number) in [(&[8, 1, 3][..], 14), (&[8, 2, 1], 16), (&[8, 1, 1, 1], 10), (&[], 10), (&[8, 3, 1], 11)] {
+        let (refused, before) = of_l(record, &[(148, 3)]);
+        assert_eq!(refused, (number, before), "{record:?}");
+    }
+    let accepted = [&standings[..], &[(80, 1), (96, 1), (113, 1)]].concat();
+    assert_eq!(of_l(&[8, 1, 1], &[]).0, (0, checksum(&area_with(&accepted))));
+    // A record that the case has no room for, and no length.
+    assert_eq!(rows(&[(13, vec![9, 0, 8, 1, 1]), (13, vec![3])]), [NONE; 2]);
 }
 
 #[test]

@@ -16,7 +16,7 @@ use std::process::ExitCode;
 /// What a case calls: the load check; making a fresh state in an area of the right length, of a byte less and of a byte
 /// more; question 9; question 10; the writer of files, for small configurations; making a fresh state in an area of a
 /// given length; an operation in one; the length of a state area; the writer for any configuration; the first bad
-/// record of an area of a given length.
+/// record of an area of a given length; an operation with a given record in one.
 const LOAD: u8 = 1;
 const FRESH: u8 = 2;
 const FORMED: u8 = 3;
@@ -29,6 +29,7 @@ const OPERATE_GIVEN: u8 = 9;
 const STATE_LENGTH: u8 = 10;
 const WRITE: u8 = 11;
 const FIRST_BAD: u8 = 12;
+const OPERATE_RECORD: u8 = 13;
 
 const HEAD_BYTES: usize = 3;
 const PATCH_BYTES: usize = 3;
@@ -101,6 +102,7 @@ fn judge(call: u8, bytes: &[u8]) -> Option<Row> {
         WRITE_SMALL => judge_write(bytes, SMALL_OBJECT_PLACES),
         WRITE => judge_write(bytes, OBJECT_PLACES),
         FIRST_BAD => judge_first_bad(bytes),
+        OPERATE_RECORD => judge_operate_record(bytes),
         _ => None,
     }
 }
@@ -164,9 +166,21 @@ fn given_line_and_area(bytes: &[u8]) -> Option<(&[u8], Vec<u8>)> {
 }
 
 fn judge_operate(bytes: &[u8]) -> Option<Row> {
-    let (line, mut area) = given_line_and_area(bytes)?;
-    let answer = u64::from(operate(line, &mut area, &CREATE, &mut [0; ANSWER_BYTES]));
-    Some((answer, checksum(area.into_iter().map(usize::from))))
+    let (line, area) = given_line_and_area(bytes)?;
+    Some(judge_operation(line, area, &CREATE))
+}
+
+/// A record after its length, then what stands in a case of an operation without one.
+fn judge_operate_record(bytes: &[u8]) -> Option<Row> {
+    let (record_length, rest) = length(bytes)?;
+    let (record, rest) = rest.split_at_checked(record_length)?;
+    let (line, area) = given_line_and_area(rest)?;
+    Some(judge_operation(line, area, record))
+}
+
+fn judge_operation(line: &[u8], mut area: Vec<u8>, record: &[u8]) -> Row {
+    let answer = u64::from(operate(line, &mut area, record, &mut [0; ANSWER_BYTES]));
+    (answer, checksum(area.into_iter().map(usize::from)))
 }
 
 fn judge_first_bad(bytes: &[u8]) -> Option<Row> {
