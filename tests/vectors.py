@@ -5,10 +5,11 @@
     tests/vectors.py --check    fail if what is stored differs
 
 The cases are made here (those of the writer of files in vectors_write.py, those of wide lines in vectors_wide.py, those
-of the first bad record in vectors_first.py) and judged elsewhere: answers and checksums are the reference's, by its
-program `vectors`. A named case states its answer, and if the reference gives another, nothing is written and the check
-fails. A case is a byte for what is called, its length in two bytes, lower byte first, and its bytes; its row is its
-place from 1, the answer, and a checksum of what the call left (0 where it leaves nothing) or, in 12, a second answer.
+of the first bad record in vectors_first.py, those of ring cards in vectors_rings.py) and judged elsewhere: answers and
+checksums are the reference's, by its program `vectors`. A named case states its answer, and if the reference gives
+another, nothing is written and the check fails. A case is a byte for what is called, its length in two bytes, lower
+byte first, and its bytes; its row is its place from 1, the answer, and a checksum of what the call left (0 where it
+leaves nothing) or, in 12, a second answer.
 What is called:
 
     1         the load check, on a file
@@ -25,6 +26,7 @@ What is called:
     10        the length of a file's state area
     12        the first bad record of an area, in the form of 9; the second answer, which is stated too, is that to an
               operation on the area whose record is empty
+    13        an operation: its record after its length in two bytes, and then a file and an area in the form of 9
 """
 import os
 import pathlib
@@ -33,6 +35,7 @@ import subprocess
 import sys
 
 import vectors_first
+import vectors_rings
 import vectors_wide
 import vectors_write
 from layout import (AREA, CONTENT, DEVICES_FROM, DRIVERS_FROM, MOST_DEVICES, MOST_DRIVERS, MOST_ENTRIES, MOST_ITEMS,
@@ -41,9 +44,9 @@ from layout import (AREA, CONTENT, DEVICES_FROM, DRIVERS_FROM, MOST_DEVICES, MOS
 TOP = pathlib.Path(__file__).resolve().parent.parent
 HOME = TOP / "crates" / "vectors"
 LOAD, FRESH, FORMED, OPERATION, FRESH_SHORT, FRESH_LONG, WRITE = 1, 2, 3, 4, 5, 6, 7
-FRESH_IN, OPERATE_IN, STATE_BYTES, WRITE_WIDE, FIRST_BAD = 8, 9, 10, 11, 12
+FRESH_IN, CREATE_IN, STATE_BYTES, WRITE_WIDE, FIRST_BAD, OPERATE_IN = 8, 9, 10, 11, 12, 13
 # What the program `vectors` takes in.
-MOST_INPUT = 131072
+MOST_INPUT = 163840
 
 
 # Document 01's file L, whose numbers have one byte each, by groups.
@@ -138,8 +141,8 @@ def named_hardcoded():
     yield "6: a hardcoded value names another device's object", with_numbers((26, 4)), 6
     yield "6: a hardcoded value names an external object", with_numbers((26, 5)), 6
     yield "6: a hardcoded value names a hardcoded descriptor", with_numbers((26, 1)), 6
-    yield "6: a hardcoded value writes kind 1", with_numbers((27, 2)), 6
-    yield "6: a hardcoded value reads and writes kind 1", with_numbers((27, 3)), 6
+    yield "a hardcoded value writes its own kind 1", with_numbers((27, 2)), 0
+    yield "a hardcoded value reads and writes its own kind 1", with_numbers((27, 3)), 0
     yield "both 5 and 6: 5 is asked first", with_numbers((17, 4), (26, 4)), 5
     yield "both 4 and 5: 4 is asked first", with_numbers((17, 4)) + b"\0", 4
 
@@ -300,16 +303,25 @@ def wide_cases():
     for label, file, length, stated in vectors_wide.fresh_lengths():
         yield case(f"fresh: {label}", FRESH_IN, two(length) + file, stated)
     for label, file, length, stated in vectors_wide.lengths():
-        yield case(f"operate: {label}", OPERATE_IN, on_area(file, length, {}), stated)
+        yield case(f"operate: {label}", CREATE_IN, on_area(file, length, {}), stated)
     for named in (vectors_wide.absent(), vectors_wide.present()):
         for label, file, length, area, stated in named:
-            yield case(label, OPERATE_IN, on_area(file, length, area), stated)
+            yield case(label, CREATE_IN, on_area(file, length, area), stated)
     for label, file, stated in vectors_wide.needed():
         yield case(label, STATE_BYTES, file, stated)
     for label, record, stated in vectors_wide.records():
         yield case(label, OPERATION, record, stated)
     for label, length, memory, stated in vectors_write.wide_cases(L, vectors_wide.wide_size()):
         yield case(label, WRITE_WIDE, two(length) + bytes(memory).rstrip(b"\0"), stated)
+
+
+def ring_cases():
+    for label, data, stated in vectors_rings.files(L):
+        yield case(label, LOAD, data, stated)
+    for label, length, memory, stated in vectors_write.ring_cases(L):
+        yield case(label, WRITE, two(length) + bytes(memory).rstrip(b"\0"), stated)
+    for label, file, length, area, record, stated in vectors_rings.calls(L):
+        yield case(label, OPERATE_IN, two(len(record)) + record + on_area(file, length, area), stated)
 
 
 def cases():
@@ -319,6 +331,7 @@ def cases():
     for label, file, length, area, stated, answer in vectors_first.cases():
         told = f"; answer {answer}" if answer else ""
         yield case(f"first bad: {label}{told}", FIRST_BAD, on_area(file, length, area), stated, answer)
+    yield from ring_cases()
 
 
 def reference_program(name):

@@ -205,9 +205,21 @@ def refused_by_5_and_6(line_l):
                           ("a hardcoded descriptor", [(SMALL.entry(1, 1), 1)])):
         yield f"write, 6: a hardcoded value names {name}", ROOM, changed(line, *changes), refused(6)
     for mode in (2, 3):
-        yield (f"write, 6: a hardcoded value names kind 1 by mode {mode}", ROOM,
-               changed(line, (SMALL.entry(2, 1) + 1, mode)), refused(6))
+        yield (f"write: a hardcoded value names its own kind 1 by mode {mode}", ROOM,
+               changed(line, (SMALL.entry(2, 1) + 1, mode)), done(45))
     yield "write, 6: the first device's value for the last", ROOM, changed(line, (SMALL.hardcoded + 2, 1)), refused(6)
+
+
+def ring_cases(line_l):
+    """Request N4: hardcoded values that write their own device's kind 1 objects."""
+    line, entry = memory_of(line_l), SMALL.entry(1, 1)
+    for mode in (2, 3):
+        yield (f"write: a ring by mode {mode}, stored value K", ROOM, changed(line, (entry + 1, mode), (entry + 2, 5)),
+               done(45))
+        yield (f"write: a ring by mode {mode}, a stored value above K", ROOM,
+               changed(line, (entry + 1, mode), (entry + 2, 6)), refused(3))
+        yield (f"write, 6: a hardcoded value writes another device's kind 1 by mode {mode}", ROOM,
+               changed(line, (entry, 4), (entry + 1, mode), (entry + 2, 3)), refused(6))
 
 
 def orders(line_l):

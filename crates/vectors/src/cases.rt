@@ -18,7 +18,7 @@ use state::room::room_for;
 // and of a byte more; question 9; question 10; the writer on a configuration in memory, with columns for few objects;
 // making a fresh state in an area of any length; creating a partition on an area of any length and content; the length
 // that the line needs; the writer with columns for every object; the first bad record of an area of any length and
-// content.
+// content; an operation of any bytes on such an area.
 const LOAD: u8 = 1;
 
 const FRESH: u8 = 2;
@@ -42,6 +42,8 @@ const STATE_BYTES: u8 = 10;
 const WRITE_WIDE: u8 = 11;
 
 const FIRST_BAD: u8 = 12;
+
+const OPERATE_IN: u8 = 13;
 
 // How long the area of a case is at most.
 pub(crate) const MOST_AREA: usize = 4096;
@@ -246,11 +248,10 @@ fn judge_formed(bytes: &[u8]) -> Row {
     formed_row(&bytes[1..end], &area)
 }
 
-// The record that creates partition 1.
-fn create_row(file: &[u8], area: &mut [u8]) -> Row {
+// An operation.
+fn operate_row(file: &[u8], area: &mut [u8], rec: &[u8]) -> Row {
     let mut answer = [0u8; ANSWER_BYTES];
-    let record = [CREATE_CODE, 1];
-    let number = gate::gate_operate(file, area, &record, &mut answer);
+    let number = gate::gate_operate(file, area, rec, &mut answer);
     Row {
         answer: wider(number),
         left: sum_bytes(0, &area[..]),
@@ -269,26 +270,26 @@ fn first_bad_row(file: &[u8], area: &mut [u8]) -> Row {
 }
 
 // One of the two, on an area with patches.
-fn row_on(call: u8, file: &[u8], area: &mut [u8], patches: &[u8]) -> Row {
+fn row_on(call: u8, file: &[u8], rec: &[u8], area: &mut [u8], patches: &[u8]) -> Row {
     patch(area, patches);
     if call == FIRST_BAD {
         first_bad_row(file, area)
     } else {
-        create_row(file, area)
+        operate_row(file, area, rec)
     }
 }
 
 // The same on an area of n bytes, all 0 but the patches.
-fn row_in(call: u8, file: &[u8], n: usize, patches: &[u8]) -> Row {
+fn row_in(call: u8, file: &[u8], rec: &[u8], n: usize, patches: &[u8]) -> Row {
     let mut area = [0u8; MOST_AREA];
     if MOST_AREA < n {
         return unknown();
     }
-    row_on(call, file, &mut area[0..n], patches)
+    row_on(call, file, rec, &mut area[0..n], patches)
 }
 
 // The file's length in two bytes, the file, the area's length in two bytes, and the bytes of the area that are not 0.
-fn judge_in(call: u8, bytes: &[u8]) -> Row {
+fn judge_in(call: u8, rec: &[u8], bytes: &[u8]) -> Row {
     if bytes.len() < 2 {
         return unknown();
     }
@@ -300,9 +301,22 @@ fn judge_in(call: u8, bytes: &[u8]) -> Row {
     row_in(
         call,
         &bytes[2..end],
+        rec,
         two(bytes[end], bytes[end + 1]),
         &bytes[from..],
     )
+}
+
+// The record's length in two bytes, the record, and the rest.
+fn judge_record(call: u8, bytes: &[u8]) -> Row {
+    if bytes.len() < 2 {
+        return unknown();
+    }
+    let end = two(bytes[0], bytes[1]) + 2;
+    if bytes.len() < end {
+        return unknown();
+    }
+    judge_in(call, &bytes[2..end], &bytes[end..])
 }
 
 pub(crate) fn judge(call: u8, bytes: &[u8]) -> Row {
@@ -318,13 +332,14 @@ pub(crate) fn judge(call: u8, bytes: &[u8]) -> Row {
         OPERATION => judge_operation(bytes),
         WRITE => judge_write(bytes),
         FRESH_IN => judge_fresh_in(bytes),
-        CREATE_IN => judge_in(call, bytes),
+        CREATE_IN => judge_in(call, &[CREATE_CODE, 1], bytes),
         STATE_BYTES => Row {
             answer: gate::gate_state_bytes(bytes),
             left: 0,
         },
         WRITE_WIDE => judge_wide_write(bytes),
-        FIRST_BAD => judge_in(call, bytes),
+        FIRST_BAD => judge_in(call, b"", bytes),
+        OPERATE_IN => judge_record(call, bytes),
         _ => unknown(),
     }
 }

@@ -7,7 +7,7 @@ use cases::Row;
 use libc::STDIN_FILENO;
 use libc::STDOUT_FILENO;
 
-const MOST_INPUT: usize = 131072;
+const MOST_INPUT: usize = 163840;
 
 const HEAD_BYTES: usize = 3;
 
