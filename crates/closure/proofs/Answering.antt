@@ -149,23 +149,23 @@ nothing-of q Nothing true h = refl
 nothing-of q Nothing false h = absurd (omega arith)
 
 module _ (config : Config) (b : State) where
-  -- question 19
+  -- questions 19 and 21
   abbrev Crossing : ℕ → Entry → Bool
   Crossing c e = crossing (config .objects .kind) b c (e .object)
 
-  pub crossing-answer : (r : Finding) → Answers (closureOf config b) Crossing r
-      → (findingMeans 19 r) .0 ≡ ask 19 (confined config b) 0
+  pub crossing-answer : (q : ℕ) (r : Finding) → Answers (closureOf config b) Crossing r
+      → (findingMeans q r) .0 ≡ ask q (confined config b) 0
   unfolding crossing
-  crossing-answer r h =
-      number-of 19 r (confined config b)
+  crossing-answer q r h =
+      number-of q r (confined config b)
       (survey-answer config b Crossing (λ c e. not (crosses config b c e)) (λ c e. refl) r h)
 
-  pub crossing-entry : (r : Finding) → Answers (closureOf config b) Crossing r
-      → IsCrossing config b (findingMeans 19 r)
+  pub crossing-entry : (q : ℕ) (r : Finding) → Answers (closureOf config b) Crossing r
+      → IsCrossing config b (findingMeans q r)
   unfolding crossing
-  crossing-entry (Found c o v j) h = λ k.
+  crossing-entry q (Found c o v j) h = λ k.
       record { read = h .read; there = h .there; listed = h .listed; is-bad = h .is-bad }
-  crossing-entry Nothing h = λ k. absurd (k refl)
+  crossing-entry q Nothing h = λ k. absurd (k refl)
 
   -- question 20
   module _ (table : List ℕ) (but : ℕ) where

@@ -54,7 +54,7 @@ pick-in : (t : Bool) (x y n : ℕ) → y ≡ cond t x 0 → t ≡ true → bit x
 pick-in true x y n is e h = subst (λ (w : ℕ). bit w n ≡ 1) (sym is) h
 pick-in false x y n is e h = absurd (false≢true e)
 
--- question 19: the devices of the partition of object o, if it is not hardcoded
+-- questions 19 and 21: the devices of the partition of object o, if it is not hardcoded
 pub fine-inside : (kind : List ℕ) (b : State) (devices o p y : ℕ) (t : List ℕ) → Parts b (devices + 1) t
     → p ≡ objectIn b o → y ≡ cond (not (eqb (getD kind o 0) 4)) (getD t p 0) 0
     → FineWord (crossing kind b) devices o y

@@ -108,8 +108,9 @@ Answers m bad Nothing =
     (c o v : ℕ) (e : Entry) → Reads (m .config) (m .storing) (m .state) c o v → List·Memᴰ e (entries (m .config) v)
     → bad c e ≡ true → ⊥
 
--- document 01, questions 19 and 20, for each case of a search's answer to question q: the number, q where it is
--- answered no and else 0; and the values, the device, the descriptor, the value and the entry's number in the value
+-- document 01, questions 19 and 20, and document 02, question 21, for each case of a search's answer to question q: the
+-- number, q where it is answered no and else 0; and the values, the device, the descriptor, the value and the entry's
+-- number in the value
 abbrev pub findingMeans : ℕ → Finding → ℕ × List ℕ
 findingMeans q (Found c o v j) = (q, c ∷ o ∷ v ∷ j ∷ [])
 findingMeans q Nothing = (0, [])
@@ -128,7 +129,7 @@ isNothing Nothing = true
 abbrev pub closureOf : Config → State → Scene
 closureOf config b = record { config = config; storing = true; state = b }
 
--- question 19: an entry that is answered is in the closure, and crosses
+-- questions 19 and 21: an entry that is answered is in the closure, and crosses
 abbrev pub IsCrossing : Config → State → ℕ × List ℕ → Type 0
 IsCrossing config b m = Tells (closureOf config b) (crosses config b) m
 

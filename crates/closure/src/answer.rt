@@ -1,4 +1,4 @@
-// Questions 19 and 20 over a configuration's columns and a state area.
+// Questions 19 to 21 over a configuration's columns and a state area.
 use crate::begin::begin;
 use crate::fine;
 use crate::search::Finding;
@@ -78,7 +78,7 @@ fn answer<'a>(
     )
 }
 
-// Question 19: an entry in the closure that crosses, or nothing.
+// Questions 19 and 21: an entry in the closure that crosses, or nothing. The question q is the caller's.
 pub fn crossing<'a>(
     counts: Counts,
     kind: &'a [u8; OBJECT_SLOTS],
@@ -93,13 +93,13 @@ pub fn crossing<'a>(
     requires { ⌜ OwnersOk counts (now class) (now owner) ⌝ }
     requires { ⌜ AreaOk counts (now kind) (now area) room ⌝ }
     ensures { λ r.
-        ⌜ ((d : Devices) → (findingMeans 19 r) .0 ≡ ask 19 (confined (searchConfig d counts (now (kind .entry))
+        ⌜ ((d : Devices) (q : ℕ) → (findingMeans q r) .0 ≡ ask q (confined (searchConfig d counts (now (kind .entry))
         (now (class .entry)) (now (owner .entry)) (now (count .entry)) (now (entries .entry)))
         (view room (now (area .entry)))) 0) ⌝ }
     ensures { λ r.
-        ⌜ ((d : Devices) → IsCrossing (searchConfig d counts (now (kind .entry)) (now (class .entry))
+        ⌜ ((d : Devices) (q : ℕ) → IsCrossing (searchConfig d counts (now (kind .entry)) (now (class .entry))
         (now (owner .entry)) (now (count .entry)) (now (entries .entry))) (view room (now (area .entry)))
-        (findingMeans 19 r)) ⌝ }
+        (findingMeans q r)) ⌝ }
 {
     let fine = fine::all_inside(counts, kind, area, room);
     answer(

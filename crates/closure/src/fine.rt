@@ -58,7 +58,7 @@ fn inside(
     words::pick(kind[o] != HARDCODED_KIND, parts[p])
 }
 
-// Question 19: for each object the devices whose entries for it do not cross.
+// Questions 19 and 21: for each object the devices whose entries for it do not cross.
 pub fn all_inside(
     counts: Counts,
     kind: &[u8; OBJECT_SLOTS],

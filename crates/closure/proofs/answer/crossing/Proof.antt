@@ -26,9 +26,9 @@ returns c =
     let s : Devices → Config = λ d. searchConfig d (a .args .counts) (now (a .args .kind)) (now (a .args .class))
     (now (a .args .owner)) (now (a .args .count)) (now (a .args .entries)) in
     let b = view (a .args .room) (now (a .args .area)) in (
-      λ d. crossing-answer (s d) b (c .answer .result)
+      λ d q. crossing-answer (s d) b q (c .answer .result)
           (c .answer .ensures d (crossing (now (a .args .kind)) b) (c .before .before .all-inside .ensures)),
-      λ d. crossing-entry (s d) b (c .answer .result)
+      λ d q. crossing-entry (s d) b q (c .answer .result)
           (c .answer .ensures d (crossing (now (a .args .kind)) b) (c .before .before .all-inside .ensures)),
     )
 

@@ -15,7 +15,7 @@ returns : tie.Need-returns
 returns c =
     let a = c .before .before .before .before .before .before .before .before .before .before in
     c .is-nothing .ensures
-    ∙ nothing-of 18 (c .before .crossing .result) _ (c .before .crossing .ensures .0 (a .args .t1 .devices))
+    ∙ nothing-of 18 (c .before .crossing .result) _ (c .before .crossing .ensures .0 (a .args .t1 .devices) 19)
 
 pub is-confined-spec : {M : Type 1} → statement M
 is-confined-spec = tie.close (tie.spec crossing-requires is-nothing-requires returns)
