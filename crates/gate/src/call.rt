@@ -27,6 +27,9 @@ use searches::transfers::is_storing;
 use state::formed::is_formed;
 use state::look::right_length;
 
+// The answer where every question is a yes.
+const ACCEPTED: u8 = 0;
+
 // Questions 18 to 21 are about writes, copies, deactivations and devices that are brought in.
 fn is_searched(f: Family, a: Actor) -> bool
     ensures { λ r. ⌜ r ≡ (stores f || leaves f || enters f a) ⌝ }
@@ -61,7 +64,7 @@ fn judge_all(config: Config, area: &[u8], room: usize, op: Operation) -> u8
     let f = family_of(op.code);
     let a = actor_of(op.code);
     if !is_searched(f, a) {
-        return 0;
+        return ACCEPTED;
     }
     if !are_described(config, area, room, op, f, a) {
         return 18;
@@ -71,10 +74,10 @@ fn judge_all(config: Config, area: &[u8], room: usize, op: Operation) -> u8
     }
     // What 20 is not about goes no further: a call of it would copy the configuration.
     if !is_leaving(f) {
-        return 0;
+        return ACCEPTED;
     }
     if stays_unnamed(config, area, room, op, f, a) {
-        0
+        ACCEPTED
     } else {
         20
     }

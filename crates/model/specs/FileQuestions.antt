@@ -175,6 +175,5 @@ pub record FileYes (file : List ℕ) : Type 0 where
   pub y4 : (end : ℕ) → (told file) .reading ≡ At end → end ≡ length file
   -- question 5: has each device exactly one kind 4 object, and each kind 4 object a device as owner?
   pub y5 : paired ((told file) .table) ≡ true
-  -- question 6: does each hardcoded value name only its own device's objects, none of kind 4, and kind 1 by mode 1
-  -- only?
+  -- question 6: does each hardcoded value name only its own device's objects, none of kind 4?
   pub y6 : restrained ((told file) .table) ≡ true

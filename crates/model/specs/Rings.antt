@@ -16,11 +16,11 @@ use Rattle.model.specs.declared.Config.{Config}
 abbrev pub quietEntry : Config → Entry → Bool
 quietEntry config e = not (isKind config 1 (e .object)) || not (writes e)
 
--- document 02, N4: the hardcoded value of device c writes no kind 1 object, so that the device, if there is one, has no
--- ring
+-- document 02, N4: the hardcoded value of device c writes no kind 1 object, so that the device has no ring
 abbrev pub ringless : Config → ℕ → Bool
 ringless config c = all (quietEntry config) (entries config (hardcodedOf config c))
 
+-- document 02, N4: number c names no device with a ring
 abbrev pub Ringless : Config → ℕ → Type 0
 Ringless config c = 1 ≤ c → c ≤ config .counts .devices → ringless config c ≡ true
 

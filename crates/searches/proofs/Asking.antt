@@ -21,7 +21,18 @@ use Rattle.model.specs.declared.Config.{Config}
 use Rattle.model.specs.declared.Operation.{Operation}
 use Rattle.questions.specs.Items.{allBelow}
 use Rattle.searches.specs.Ready.{Searchable, Ready, Asked}
-use Rattle.searches.specs.Asking.{stores, leaves, byDevice, activates, enters, follows, pairDescribed, transferOf, itemDescribed, Marks}
+use Rattle.searches.specs.Asking.{
+  stores,
+  leaves,
+  byDevice,
+  activates,
+  enters,
+  follows,
+  pairDescribed,
+  transferOf,
+  itemDescribed,
+  Marks,
+}
 use Rattle.searches.proofs.Readying
 
 -- only a deactivation leaves
@@ -129,7 +140,7 @@ module _ (config : Config) (b : State) (op : Operation) where
       e ∙ below-same (op .count) (itemDescribed config b op f) (transfer config b op f) (same f)
   q18-items f External h e = absurd (false≢true h)
 
-  -- questions 19 and 21: an operation is put to one of them at most
+  -- questions 19 and 21: at most one of them is put to an operation
   pub q19-device : (f : Family) (a : Actor) → byDevice a ≡ true → true ≡ q19 config b op f a
   unfolding q19
   q19-device f Driver h = absurd (false≢true h)

@@ -145,8 +145,8 @@ fn is_followed(f: Family, a: Actor) -> bool
     is_entering(f, a)
 }
 
-// 19 and 21: no entry crosses in the state that would follow, of whichever device. One function asks both, since an
-// operation is put to one of them at most; a second call would copy the configuration once more.
+// 19 and 21: no entry crosses in the state that would follow, of whichever device. One function asks both, since at
+// most one of them is put to an operation; a second call would copy the configuration once more.
 pub fn follows_confined(
     config: Config,
     area: &[u8],
@@ -158,7 +158,8 @@ pub fn follows_confined(
     requires { ⌜ Ready config room (now area) ⌝ }
     requires { ⌜ Asked config op f a ⌝ }
     ensures { λ r.
-        ⌜ r ≡ (q19 config (view room (now (area .entry))) op f a && q21 config (view room (now (area .entry))) op f a) ⌝ }
+        ⌜ r ≡ (q19 config (view room (now (area .entry))) op f a
+        && q21 config (view room (now (area .entry))) op f a) ⌝ }
 {
     if !is_followed(f, a) {
         return true;
