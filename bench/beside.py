@@ -76,6 +76,10 @@ def cases(size):
     yield "driver reads eight with copies, little active", "operate", little, vectors.row([3, 1, 8] + copies), "0"
     absent = full.without_device(**size)
     yield "activate a card, dense", "operate", absent, vectors.row([8, absent.devices, 1]), "0"
+    yield "activate a ring card, dense", "operate", full.rings(**size), vectors.row([8, 1, 1]), "0"
+    for steps in CHAINS[:2]:
+        ring = full.ring_links(steps, **size)
+        yield f"ring card refused, chain of {steps}", "operate", ring, vectors.row([8, ring.owner, 1]), "21"
     yield "object leaves, dense", "operate", dense, vectors.row([12, 1, 1, last]), "0"
     yield "card writes eight items, dense", "operate", dense, card_writes(dense), "0"
     yield "rewrite the line", "rewrite", dense, b"", str(len(dense.file()))

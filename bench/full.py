@@ -63,6 +63,16 @@ def without_device(**size):
     return line
 
 
+def rings(**size):
+    """As mixed, but every device that has a hardcoded value reads and writes its own descriptors by it (request N4),
+    and the first device is inactive, with what it owns."""
+    line, rnd = mixed(**size), random.Random(2)
+    for v in filter(None, line.hardcoded.values()):
+        line.values[v] = [(named, BOTH, rnd.choice(list(line.held.values()))) for named, _, _ in line.values[v]]
+    line.asleep = {(2, 1)}
+    return line
+
+
 def described(line, device):
     """What the device may write with the values of the moment: the value that is put into each object, 0 into data."""
     held = {**line.held, **{n: line.hardcoded[o[2]] for n, o in line.objects.items() if o[0] == 4}}
@@ -107,4 +117,14 @@ def links(order, entries, devices=16, objects=96, values=47):
         line.values[value] = [(data, READ, 0)] * (entries - 1) + [link]
     line.values[chain[-1]] = [(data, READ, 0)] * (entries - 1) + [(outside, READ, 0)]
     line.start = {len(chain) - place: value for place, value in enumerate(chain)}
+    return line
+
+
+def ring_links(steps, **size):
+    """As links with rising numbers and six entries, but the hardcoded value itself puts down the value from which the
+    chain has so many steps, and its device is inactive, with what it owns."""
+    line = links("rising", ENTRIES, **size)
+    line.owner = line.objects[line.first][2]
+    line.values[line.hardcoded[line.owner]] = [(line.first, BOTH, line.start[steps])] * ENTRIES
+    line.asleep = {(2, line.owner)}
     return line

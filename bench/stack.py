@@ -11,6 +11,7 @@ import sys
 import tempfile
 
 sys.path.insert(0, str(pathlib.Path(__file__).resolve().parent.parent / "tests"))
+import full  # noqa: E402
 import lines  # noqa: E402
 import vectors  # noqa: E402
 from measure import build, run, write_case  # noqa: E402
@@ -98,16 +99,25 @@ def states(size):
     yield lines.chain_out(40, **size)
 
 
-def rows(program, folder, fault):
-    """For each state and record: the record's code, and for each call its bytes, its answer and the one expected."""
-    environment = {**os.environ, "GATE_FAULT": fault}
-    for place, line in (found for size in SIZES for found in enumerate(states(size))):
+def cases(size):
+    """A line in a state, a record, and its answer; the last two bring in a card with a ring, which 21 searches."""
+    for place, line in enumerate(states(size)):
         for record, answers in records(line):
-            told = run(program, *write_case(folder, line, record), env=environment).stdout.split()
-            depths, found = [[int(n) for n in told[i::2]] for i in (0, 1)]
-            # Both sizes have as many objects as their areas have records, and bench/stack.c breaks the last one.
-            stated = (0, 0, answers[place], len(line.file()), len(line.area()), len(line.objects))
-            yield record[:1], list(zip(CALLS, depths, found, stated, strict=True))
+            yield line, record, answers[place]
+    yield full.rings(**size), vectors.row([8, 1, 1]), 0
+    ring = full.ring_links(40, **size)
+    yield ring, vectors.row([8, ring.owner, 1]), 21
+
+
+def rows(program, folder, fault):
+    """For each case: the record's code, and for each call its bytes, its answer and the one expected."""
+    environment = {**os.environ, "GATE_FAULT": fault}
+    for line, record, answer in (found for size in SIZES for found in cases(size)):
+        told = run(program, *write_case(folder, line, record), env=environment).stdout.split()
+        depths, found = [[int(n) for n in told[i::2]] for i in (0, 1)]
+        # Both sizes have as many objects as their areas have records, and bench/stack.c breaks the last one.
+        stated = (0, 0, answer, len(line.file()), len(line.area()), len(line.objects))
+        yield record[:1], list(zip(CALLS, depths, found, stated, strict=True))
 
 
 def faults(row):

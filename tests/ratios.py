@@ -29,24 +29,29 @@ HEAD = """\
 
 [library / plain C]
 """
-# Loading, question 9 with the search behind 19, question 18 with items, and the writer: rows of the table `beside`.
+# Loading, question 9 with the searches behind 19 and 21, question 18 with items, and the writer: rows of the table
+# `beside`.
 REWRITE, WIDE_WRITE = "full: rewrite the line", "wide: driver writes data, dense"
-ROWS = ("full: load check", "full: driver writes data, dense", REWRITE, "quarter: card writes eight items, dense",
-        "wide: load check", WIDE_WRITE)
+ENTERING = "full: activate a ring card, dense"
+ROWS = ("full: load check", "full: driver writes data, dense", ENTERING, REWRITE,
+        "quarter: card writes eight items, dense", "wide: load check", WIDE_WRITE)
 SLOWER = 1.1
 # Rows of the tables `load`, `search` and `parts`, of which no ratio is kept.
 WIDE_LOAD, WIDE_SEARCH = "longest file: load check", "wide: search, dense"
 QUESTION_9, WIDE_QUESTION_9 = "full: question 9, dense", "wide: question 9, dense"
-# The instructions that the library may take, whatever the plain gate takes: for rewriting a line of full size, for
-# question 9 on one and on a line of 192 objects, and for a load, a search and a whole write on a line of 192 objects.
+# The instructions that the library may take, whatever the plain gate takes: for rewriting a line of full size, for a
+# card that comes in there, for question 9 on one and on a line of 192 objects, and for a load, a search and a whole
+# write on a line of 192 objects.
 MOST_REWRITE = 65000
+MOST_ENTERING = 95000
 MOST_QUESTION_9 = 4500
 MOST_WIDE_QUESTION_9 = 2 * MOST_QUESTION_9
 MOST_WIDE_LOAD = 50000
 MOST_WIDE_SEARCH = 110000
 MOST_WIDE_WRITE = 175000
-BOUNDS = {REWRITE: MOST_REWRITE, QUESTION_9: MOST_QUESTION_9, WIDE_QUESTION_9: MOST_WIDE_QUESTION_9,
-          WIDE_LOAD: MOST_WIDE_LOAD, WIDE_SEARCH: MOST_WIDE_SEARCH, WIDE_WRITE: MOST_WIDE_WRITE}
+BOUNDS = {REWRITE: MOST_REWRITE, ENTERING: MOST_ENTERING, QUESTION_9: MOST_QUESTION_9,
+          WIDE_QUESTION_9: MOST_WIDE_QUESTION_9, WIDE_LOAD: MOST_WIDE_LOAD, WIDE_SEARCH: MOST_WIDE_SEARCH,
+          WIDE_WRITE: MOST_WIDE_WRITE}
 # Every call of a row is the same, so that few are enough.
 TIMES = 10
 
