@@ -88,6 +88,25 @@ def mailbox_visit(first, second):
     return [Move(row, *move) for row, move in enumerate(moves, 2)]
 
 
+def job_line(*jobs):
+    """Cards whose rings give them one job each, the entries in turn, and beside these jobs a last one for the mailbox.
+
+    Object 1 is the mailbox, an external descriptor; of card n the data is object 3n + 1, as data_of says.
+    """
+    count = len(jobs) - 1
+    kinds = [(w.TRANSFER, w.EXTERNAL, 0)] + [(kind, w.DEVICE, n) for n in range(1, count + 1)
+                                             for kind in (w.HARDCODED, w.TRANSFER, w.DATA)]
+    entries = [Entry(3 * n, w.BOTH, count + n) for n in range(1, count + 1)] + list(jobs)
+    return Config({1: "D1"}, {n: Device(f"C{n}", n) for n in range(1, count + 1)},
+                  {n: Object(f"O{n}", *kind) for n, kind in enumerate(kinds, 1)},
+                  {n: Value(f"V{n}", (entry,)) for n, entry in enumerate(entries, 1)})
+
+
+def data_of(card):
+    """A job of such a line: to read the data of a card."""
+    return Entry(3 * card + 1, w.READ, 0)
+
+
 def widened(config, count, seed):
     """The line with external data among its objects, so many that it has `count` in all, its own in the upper third.
 

@@ -1,14 +1,16 @@
 """A bring-up made from a stored area gives that area again, and check speaks of the visit's rows."""
 import shutil
 import unittest
+from itertools import permutations
 from pathlib import Path
 
 from common import PROGRAM, ROOT, InFolder, plan
-from lines import random_line, random_visit, ring_line, ring_visit, wide_line
+from lines import data_of, job_line, random_line, random_visit, ring_line, ring_visit, wide_line
 from planner import pack
 from planner import wording as w
 from planner.area import (CARDS_AT, DIGEST_BYTES, DRIVERS_AT, MARK, OBJECTS_AT, RECORD, SMALL_ROOM, area_bytes, digest,
                           length_for, read_area)
+from planner.book import follow, fresh
 from planner.config import Config, Device, Entry, Object, Value
 from planner.judged import judge_folder, judge_moves
 from planner.start import bring_up
@@ -44,6 +46,12 @@ def comes_back(config, state):
     area = area_bytes(config, state)
     judged = judge_moves(PROGRAM, config, bring_up(config, read_area(config, area)).moves)
     return judged.verdict.accepted and area_bytes(config, judged.last_state()) == area
+
+
+def cards_brought(config, state):
+    """The cards that the bring-up to a state brings in, in its order, each with the answer."""
+    steps = judge_moves(PROGRAM, config, bring_up(config, state).moves).steps
+    return [(step.move.who, step.answer) for step in steps if step.move.code == 8]
 
 
 class BringUps(unittest.TestCase):
@@ -88,6 +96,38 @@ class BringUps(unittest.TestCase):
             codes = [move.code for move in bring_up(config, state).moves if move.code in w.ACTIVATES]
             last += 8 in codes[codes.index(9):] if 9 in codes else 0
         self.assertGreater(last, 5)
+
+    def test_rings_of_which_one_order_is_accepted(self):
+        """C1 puts a job into the mailbox, C2 does what it finds there: to read C3's data. C3 reads C2's data.
+
+        C1 can come in first, but then neither of the others can.
+        """
+        mailbox, letter = 1, 7
+        config = job_line(Entry(mailbox, w.WRITE, letter), Entry(mailbox, w.READ, 0), data_of(2), data_of(3))
+        judged = {order: judge_moves(PROGRAM, config, [Move(2, 5, where=1), Move(3, 9, 0, 1, (mailbox,))] +
+                                     [Move(row, 8, card, 1) for row, card in enumerate(order, 4)])
+                  for order in permutations(config.devices)}
+        self.assertEqual([order for order in judged if judged[order].verdict.accepted], [(2, 3, 1)])
+        self.assertEqual(judged[1, 2, 3].verdict.answers, (0, 0, 0, w.ENTERS_OUTSIDE, w.ENTERS_OUTSIDE))
+        state = judged[2, 3, 1].last_state()
+        self.assertTrue(comes_back(config, state))
+        self.assertEqual(cards_brought(config, state), [(2, 0), (3, 0), (1, 0)])
+
+    def test_rings_of_which_no_order_is_accepted(self):
+        """In areas that no moves lead to: with two cards that name each other's data, one and two that never come in.
+
+        The other cards, which have an order, come in all the same.
+        """
+        never, letter = Entry(2, w.READ, 0), data_of(1)
+        for jobs, refused in (((data_of(2), data_of(1), data_of(4), data_of(4)), {1, 2}),
+                              ((never, data_of(3), data_of(3)), {1}),
+                              ((never, data_of(3), data_of(3), never), {1, 4})):
+            config = job_line(*jobs, letter)
+            state = follow(config, fresh(config), Move(2, 5, where=1))
+            for card in config.devices:
+                state = follow(config, state, Move(3, 8, card, 1))
+            self.assertEqual(sorted(cards_brought(config, state)),
+                             [(card, w.ENTERS_OUTSIDE if card in refused else 0) for card in config.devices])
 
 
 class Today(InFolder):

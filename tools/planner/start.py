@@ -56,31 +56,66 @@ class BringUp:
         self.add(code_for("deactivate", holder[0]), 0 if what else holder[1], where, what, PASSING)
 
     def bring(self, holders, where, note=""):
-        """Brings in those that are not yet there; what is elsewhere is taken out first. External ones go together."""
+        """Brings in those that are not yet there; what is elsewhere is taken out first. Cards with a ring come last."""
         for holder in holders:
             if self.place(self.now, holder) not in (NONE, where):
                 self.leave(holder)
         absent = [holder for holder in holders if self.place(self.now, holder) == NONE]
-        late = self.enter_freely([holder for holder in absent if holder[0] != w.EXTERNAL], where, note)
-        loose, most = [n for owner_class, n in absent if owner_class == w.EXTERNAL], w.LIMITS["items of a move"]
-        for at in range(0, len(loose), most):
-            self.add(code_for("activate", w.EXTERNAL), 0, where, loose[at:at + most], note)
-        while late:
-            left = self.enter_freely(late, where, note)
-            if left == late:
-                self.enter(left.pop(0), where, note)
-            late = left
+        rings = [holder for holder in absent if self.has_ring(holder)]
+        self.enter_all([one for one in absent if one[0] != w.EXTERNAL and one not in rings], where, note)
+        self.enter_loose([number for owner_class, number in absent if owner_class == w.EXTERNAL], where, note)
+        self.enter_all(self.in_turn(rings, where), where, note)
 
-    def enter_freely(self, holders, where, note):
-        """Brings in drivers and cards, but for cards whose rings name what is not there yet; these are returned."""
-        late = []
+    def enter_all(self, holders, where, note):
         for holder in holders:
-            entered = follow(self.config, self.now, Move(0, code_for("activate", holder[0]), holder[1], where))
-            if holder[0] == w.DEVICE and outside_chain(self.config, entered):
-                late.append(holder)
-            else:
-                self.enter(holder, where, note)
-        return late
+            self.enter(holder, where, note)
+
+    def enter_loose(self, numbers, where, note):
+        """Brings in external objects, many by one move."""
+        most = w.LIMITS["items of a move"]
+        for at in range(0, len(numbers), most):
+            self.add(code_for("activate", w.EXTERNAL), 0, where, numbers[at:at + most], note)
+
+    def has_ring(self, holder):
+        """Whether it is a card whose hard-wired value writes transfer descriptors; others can come in at any time."""
+        entries = self.config.entries(self.config.devices[holder[1]].hardcoded) if holder[0] == w.DEVICE else ()
+        return any(entry.writes and self.config.objects[entry.object].kind == w.TRANSFER for entry in entries)
+
+    def strays(self, cards, where):
+        """Whether something is outside with these cards brought in."""
+        state = self.now
+        for owner_class, number in cards:
+            state = follow(self.config, state, Move(0, code_for("activate", owner_class), number, where))
+        return bool(outside_chain(self.config, state))
+
+    def in_turn(self, cards, where):
+        """Cards with a ring in an order in which nothing is outside when one comes in, found from its end.
+
+        Where there is any such order, one is found, whichever cards are taken from the end: of those left, the one that
+        comes last in the order that there is can be taken next, for what the others reach is there before it. Without
+        one, and so wherever something is outside with all of them in, as many come in as can, one by one.
+        """
+        left, behind = list(cards), []
+        while left:
+            last = self.can_be_last(left, where)
+            if last is None:
+                return self.as_they_can(left, where) + behind
+            left.remove(last)
+            behind.insert(0, last)
+        return behind
+
+    def can_be_last(self, cards, where):
+        """A card without which nothing of the others is outside; of several the last, None if there is none."""
+        return next((one for one in reversed(cards)
+                     if not self.strays([other for other in cards if other != one], where)), None)
+
+    def as_they_can(self, cards, where):
+        """Cards that have no such order: those that can come in, one after the other, then those to be refused."""
+        order = []
+        while len(order) < len(cards):
+            left = [one for one in cards if one not in order]
+            order.append(next((one for one in left if not self.strays([*order, one], where)), left[0]))
+        return order
 
     def write(self, driver, numbers, note=""):
         """Has a driver write what objects are to hold."""
