@@ -59,8 +59,9 @@ class Ring(InFolder):
 
     def test_on_the_page(self):
         found, step = self.judged()
-        data = page_data(found)["steps"][step.place - 1]
-        self.assertEqual(data["answer"], w.ENTERS_OUTSIDE)
+        whole = page_data(found)
+        data = whole["steps"][step.place - 1]
+        self.assertEqual((data["answer"], whole["afterwards"]), (w.ENTERS_OUTSIDE, [w.OUTSIDE, w.ENTERS_OUTSIDE]))
         self.assertIn(["card", SCANNER, LIVE_LOOP], data["set"])
         self.assertEqual([link["kind"] for link in data["chain"]], ["wired", "puts", "reads", "outside"])
         page = page_html(found, "Plan")

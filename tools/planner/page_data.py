@@ -50,6 +50,7 @@ def page_data(plan):
         "stops": [{"key": stop_key(step), "step": None if step is None else step.place - 1,
                    "done": plan.first if step is None else step.place} for step in stops(plan)],
         "words": list(words.texts),
+        "afterwards": list(w.AFTERWARDS),
     }
 
 

@@ -1,6 +1,6 @@
 // The plan's data, and the states that its moves lead to. Nothing here judges: an accepted move's settings are applied.
 const data = JSON.parse(document.getElementById("data").textContent);
-const ACCEPTED = 0, AFTERWARDS = [19, 21];
+const ACCEPTED = 0, AFTERWARDS = data.afterwards;
 const EXTERNAL = 0, DRIVER = 1, CARD = 2;
 const KINDS = ["", "T", "F", "D", "H"];
 const KIND_WORDS = ["", "transfer descriptor", "function descriptor", "data", "hard-wired descriptor"];
