@@ -113,6 +113,24 @@ class BringUps(unittest.TestCase):
         self.assertTrue(comes_back(config, state))
         self.assertEqual(cards_brought(config, state), [(2, 0), (3, 0), (1, 0)])
 
+    def test_rings_that_come_in_passing(self):
+        """What C1 kept leads to a card with a ring, which is to leave again, and before what its ring names.
+
+        Else C3 cannot come in, which would find in the mailbox what C2 puts there; nor can C2 leave, whom C3 names.
+        """
+        mailbox, ring_1, data_3, letter, kept = 1, 3, 10, 9, 10
+        posted = job_line(data_of(1), Entry(mailbox, w.WRITE, letter), Entry(mailbox, w.READ, 0), *[data_of(4)] * 2)
+        posted.values[kept] = Value("kept", (data_of(2),))
+        named = job_line(data_of(1), data_of(2), data_of(2), data_of(4), data_of(4))
+        named.values[kept] = Value("kept", (data_of(3),))
+        up, write = [(5, 0, 1), (5, 0, 2), (7, 1, 2)], (1, 1, 0, (Item(ring_1, w.VALUE_FORM, kept),))
+        last = (8, 3, 2), (1, 1, 0, (Item(data_3, w.RAW_FORM, raw=b"x" * 16),)), (11, 3)
+        for config, moves in ((posted, [(9, 0, 2, (mailbox,)), (8, 2, 2), (8, 1, 2), write, (11, 1), (11, 2), *last]),
+                              (named, [(8, 2, 2), (8, 3, 2), (8, 1, 2), write, (11, 1), (11, 3), (11, 2), (8, 2, 1)])):
+            judged = judge_moves(PROGRAM, config, [Move(row, *move) for row, move in enumerate(up + moves, 2)])
+            self.assertTrue(judged.verdict.accepted)
+            self.assertTrue(comes_back(config, judged.last_state()))
+
     def test_rings_of_which_no_order_is_accepted(self):
         """In areas that no moves lead to: with two cards that name each other's data, one and two that never come in.
 

@@ -1,13 +1,14 @@
 """A bring-up: moves by which a fresh state becomes a given one. It judges nothing; the program judges the moves.
 
 First what is in no partition and still holds something: it is brought in with all that its contents lead to, written,
-and taken out. Then what is in partitions: brought in with everything cleared, cards with a ring after what that names,
-and written by a driver that is there, or, where none is, by one that comes for it and leaves. In between, descriptors
-are cleared or hold what they are to hold, so that no chain comes about that the given state has not.
+and taken out, and with it cards with a ring that came for its sake. Then what is in partitions: brought in with
+everything cleared, cards with a ring after what that names, and written by a driver that is there, or, where none is,
+by one that comes for it and leaves. In between, descriptors are cleared or hold what they are to hold, so that no chain
+comes about that the given state has not.
 """
 from . import wording as w
 from .book import NONE, follow, fresh
-from .closure import Closure, outside_chain
+from .closure import Closure, leaving_chain, outside_chain
 from .visit import Item, Move
 
 CREATE, DESTROY = (min(codes) for codes in (w.CREATES, w.DESTROYS))
@@ -117,6 +118,19 @@ class BringUp:
             order.append(next((one for one in left if not self.strays([*order, one], where)), left[0]))
         return order
 
+    def dismiss(self, cards):
+        """Takes out cards, each once no other card can get at what it takes along; those that cannot leave stay."""
+        left, one = list(cards), self.can_leave(cards)
+        while one:
+            self.leave(one)
+            left.remove(one)
+            one = self.can_leave(left)
+
+    def can_leave(self, cards):
+        """The first of the cards that is out of reach of all others, None if there is none."""
+        return next((one for one in cards
+                     if not leaving_chain(self.config, self.now, self.objects(one), one[1])), None)
+
     def write(self, driver, numbers, note=""):
         """Has a driver write what objects are to hold."""
         most, items = w.LIMITS["items of a move"], []
@@ -197,9 +211,12 @@ def keep(made, holder, room):
     there = made.drivers_in(made.now, room)
     if there and holder[0] != w.DRIVER:
         driver = (w.DRIVER, there[0])
-    made.bring(dict.fromkeys([driver, *named_with(made, holder, room)]), room, PASSING)
+    named = named_with(made, holder, room)
+    came = [one for one in named if one != holder and made.has_ring(one) and made.place(made.now, one) != room]
+    made.bring(dict.fromkeys([driver, *named]), room, PASSING)
     made.write(driver[1], made.filled(holder), "what it kept when it left")
     made.leave(holder)
+    made.dismiss(came)
 
 
 def inhabitants(made, number):
