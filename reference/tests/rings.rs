@@ -140,7 +140,7 @@ fn files_for_question_6_are_broken_in_every_way() {
     assert!(told[0] > 150 && told[1] > 20);
 }
 
-/// Each ring drill meets 21 and an accepted ring, but those in which nothing ever leaves.
+/// Each ring drill meets 21, but those in which nothing ever leaves.
 #[test]
 fn ring_drills_meet_21() {
     use drills::Point;

@@ -14,7 +14,7 @@ use std::process::ExitCode;
 const WRITE_SMALL: u8 = 7;
 const WRITE: u8 = 11;
 
-/// What a program `vectors` takes in.
+/// How much is put to the program `vectors` at the most, which takes in more.
 const MOST_INPUT: usize = 131_072;
 
 /// How much longer than the file the longest area is.

@@ -20,8 +20,9 @@ use chains::{Chain, Order, shortest};
 use std::collections::BTreeMap;
 use wide::Wide;
 
-/// The longest chain that a configuration has room for: one value is a hardcoded descriptor's, and each link of a
-/// shortest chain reads a value that was not read before.
+/// The longest chain that a configuration without rings has room for: one value is a hardcoded descriptor's, which
+/// stores nothing, and each link of a shortest chain reads a value that was not read before. With a ring, whose
+/// hardcoded value is the first link itself, there is one of a link more.
 pub const LONGEST: usize = MAX_VALUES - 1;
 
 /// Who notices a fault.
