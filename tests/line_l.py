@@ -12,11 +12,13 @@ HOME = pathlib.Path(__file__).resolve().parent.parent
 DATA = HOME / "crates" / "office" / "data" / "line.bin"
 SKIPPED = {"target", ".git", "__pycache__"}
 COUNTS, OBJECTS, DEVICES, VALUES = (0, 5), (5, 23), (23, 25), (25, 45)
+# The entry of the first value, and the values behind it.
+ENTRY, OTHERS = (26, 29), (29, 45)
 # Where it is typed out, and the parts that stand there in one go.
 TYPED = {
     "crates/model/specs/Examples.antt": [(0, 45)],
     "examples/controller/main.c": [(0, 45)],
-    "reference/src/generate/stored.rs": [COUNTS, OBJECTS, DEVICES, VALUES],
+    "reference/src/generate/corners.rs": [COUNTS, OBJECTS, DEVICES, ENTRY, OTHERS],
     "reference/tests/common/mod.rs": [COUNTS, OBJECTS, DEVICES, VALUES],
 }
 

@@ -190,7 +190,7 @@ FAULT_5 = [(SMALL.kinds + 5, 4)]
 FAULT_6 = [(SMALL.entry(1, 1), 4)]
 
 
-def refused_by_5_and_6(line_l):
+def asked_5_and_6(line_l):
     line, stored = memory_of(line_l), SMALL.entry(5, 1) + 2
     for name, changes in (("a device without a hardcoded descriptor", [(SMALL.kinds + 1, 3)]),
                           ("the last device without one", [(SMALL.kinds + 3, 3)]),
@@ -253,7 +253,7 @@ def cases(line_l, largest):
     yield from broken_counts()
     yield from broken_objects(line_l, largest)
     yield from broken_values(line_l, largest)
-    yield from refused_by_5_and_6(line_l)
+    yield from asked_5_and_6(line_l)
     yield from orders(line_l)
     yield from generated(line_l, random.Random(2))
 
