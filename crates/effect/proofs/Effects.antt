@@ -11,7 +11,7 @@ use borrow.Author.Tests.{le-leb, lt-leb, leb-true}
 use Rattle.model.specs.Base.{below}
 use Rattle.model.specs.Config.{from1to}
 use Rattle.model.specs.State.{mostPartition, areaLength, view, layout}
-use Rattle.model.specs.Operation.{familyOf, actorOf, objectAt, secondAt, formAt}
+use Rattle.model.specs.Operation.{mostCode, greenCode, familyOf, actorOf, objectAt, secondAt, formAt}
 use Rattle.model.specs.declared.Family.{Family}
 use Rattle.model.specs.declared.Family.the-variants.{Write, Copy, Create, Destroy, Activate, Deactivate}
 use Rattle.model.specs.declared.Actor.{Actor}
@@ -48,8 +48,8 @@ q11-small config op a v h i l e =
 past : (k n : ℕ) → k ≤ n → (n ≡ k → ⊥) → suc k ≤ n
 past k n h x = omega arith
 
-meet : (n : ℕ) → 12 ≤ n → n ≤ 12 → n ≡ 12
-meet n h k = omega arith
+meet : (n : ℕ) → 12 ≤ n → (n ≡ greenCode → ⊥) → n ≤ mostCode → n ≡ 12
+meet n h g k = omega arith
 
 low : (n : ℕ) → n < 1 → 1 ≤ n → ⊥
 low n h k = omega arith
@@ -79,9 +79,10 @@ module _ (room : ℕ) (op : Operation) (config : Config) (s t d : List ℕ) wher
       (rw (lt-leb (op .code) 2 (omega arith), le-leb (op .code) 4 (omega arith))) refl
       (f config (actorOf (op .code))) g
 
-  pub did-create : op .code ≡ 5 → ((config : Config) (a : Actor) → t ≡ layout (apply config op Create a (view room s)))
-      → Left d
-  did-create e f = join d Create External (ap familyOf e) (ap actorOf e) (f config External) refl
+  pub did-create : (op .code ≡ 5) ⊎ (op .code ≡ greenCode)
+      → ((config : Config) (a : Actor) → t ≡ layout (apply config op Create a (view room s))) → Left d
+  did-create (inl e) f = join d Create External (ap familyOf e) (ap actorOf e) (f config External) refl
+  did-create (inr e) f = join d Create External (ap familyOf e) (ap actorOf e) (f config External) refl
 
   pub did-destroy : op .code ≡ 6
       → ((config : Config) (a : Actor) → t ≡ layout (apply config op Destroy a (view room s))) → Left d
@@ -103,15 +104,17 @@ module _ (room : ℕ) (op : Operation) (config : Config) (s t d : List ℕ) wher
   did-deactivate-device e f = join d Deactivate Device (ap familyOf e) (ap actorOf e) f refl
 
   -- the last arm: no other code is left
-  pub did-deactivate-external : (op .code < 1) ⊎ (5 ≤ op .code) → 1 ≤ op .code → op .code ≤ 12 → (op .code ≡ 5 → ⊥)
-      → (op .code ≡ 6 → ⊥) → (op .code ≡ 7 → ⊥) → (op .code ≡ 8 → ⊥) → (op .code ≡ 9 → ⊥) → (op .code ≡ 10 → ⊥)
-      → (op .code ≡ 11 → ⊥) → t ≡ layout (apply config op Deactivate External (view room s)) → Left d
+  pub did-deactivate-external : (op .code < 1) ⊎ (5 ≤ op .code) → 1 ≤ op .code → op .code ≤ mostCode
+      → ((op .code ≡ 5) ⊎ (op .code ≡ greenCode) → ⊥) → (op .code ≡ 6 → ⊥) → (op .code ≡ 7 → ⊥)
+      → (op .code ≡ 8 → ⊥) → (op .code ≡ 9 → ⊥) → (op .code ≡ 10 → ⊥) → (op .code ≡ 11 → ⊥)
+      → t ≡ layout (apply config op Deactivate External (view room s)) → Left d
   did-deactivate-external (inl z) l h a b c e g i j f = absurd (low (op .code) z l)
   did-deactivate-external (inr z) l h a b c e g i j f =
       let k : op .code ≡ 12 = meet (op .code)
       (past 11 (op .code) (past 10 (op .code)
       (past 9 (op .code) (past 8 (op .code)
-      (past 7 (op .code) (past 6 (op .code) (past 5 (op .code) z a) b) c) e) g) i) j) h in
+      (past 7 (op .code) (past 6 (op .code) (past 5 (op .code) z (λ q. a (inl q))) b) c) e) g) i) j)
+      (λ q. a (inr q)) h in
       join d Deactivate External (ap familyOf k) (ap actorOf k) f refl
 
 pub family-write : (n : ℕ) → n < 3 → familyOf n ≡ Write

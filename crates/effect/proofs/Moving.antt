@@ -17,7 +17,7 @@ use Rattle.model.specs.State.{State, cleared, areaLength, view, layout}
 use Rattle.model.specs.declared.Family.the-variants.{Create, Destroy, Activate, Deactivate}
 use Rattle.model.specs.declared.Actor.{Actor}
 use Rattle.model.specs.declared.Actor.the-variants.{Driver, Device, External}
-use Rattle.model.specs.Effect.{apply}
+use Rattle.model.specs.Effect.{createdStatus, apply}
 use Rattle.model.specs.declared.Config.{Config}
 use Rattle.model.specs.declared.Operation.{Operation}
 use Rattle.model.proofs.Lists.{partly, partly-get, partly-more}
@@ -310,10 +310,10 @@ module _ (l : List ℕ) (clears : Bool) (kind : List ℕ) (p : ℕ) where
 
 -- the operations
 module _ (room : ℕ) (op : Operation) (s t : List ℕ) where
-  pub created : t ≡ layout (withStatus (view room s) (op .partition) 1) → (config : Config) (a : Actor)
-      → t ≡ layout (apply config op Create a (view room s))
+  pub created : {v : ℕ} → v ≡ createdStatus op → t ≡ layout (withStatus (view room s) (op .partition) v)
+      → (config : Config) (a : Actor) → t ≡ layout (apply config op Create a (view room s))
   unfolding apply withStatus
-  created e config a = e
+  created h e config a = e ∙ ap (λ (x : ℕ). layout (withStatus (view room s) (op .partition) x)) h
 
   pub destroyed : t ≡ layout (withStatus (view room s) (op .partition) 2) → (config : Config) (a : Actor)
       → t ≡ layout (apply config op Destroy a (view room s))

@@ -39,7 +39,7 @@ pub fn carry_out(area: &mut [u8], room: usize, config: Config, op: Operation, an
     match code {
         1..=2 => write_items(area, room, op),
         3..=4 => copy_contents(area, room, op, answer),
-        5 => create_partition(area, room, op),
+        5 | 13 => create_partition(area, room, op),
         6 => destroy_partition(area, room, op),
         7 => activate_driver(area, room, config, op),
         8 => activate_device(area, room, config, op),

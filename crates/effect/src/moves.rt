@@ -1,8 +1,11 @@
 // Partitions created and destroyed; drivers, devices and objects put into one and taken out of it.
 ghost use mathlib.Core.Path.{_≡_};
 ghost use Prim.Native.Nat.{_<_};
+ghost use mathlib.Core.Bool.{cond};
 ghost use lib.ListN.{length};
-ghost use Rattle.model.specs.State.{areaLength, view, layout};
+ghost use lib.Dec.{eqb};
+ghost use Rattle.model.specs.State.{areaLength, plainStatus, greenStatus, view, layout};
+ghost use Rattle.model.specs.Operation.{greenCode};
 ghost use Rattle.model.specs.Effect.{apply};
 ghost use Rattle.model.specs.declared.Family.the-variants.{Create, Destroy, Activate, Deactivate};
 ghost use Rattle.model.specs.declared.Actor.{Actor};
@@ -13,12 +16,14 @@ use crate::owners::is_owned;
 use model::Config;
 use model::DEVICE_CLASS;
 use model::DRIVER_CLASS;
+use model::GREEN_CODE;
 use model::HARDCODED_KIND;
 use model::Operation;
 use model::byte_at;
 use operation::columns::number_of;
 use state::DESTROYED;
 use state::EXISTING;
+use state::GREEN;
 use state::bytes::lesser;
 use state::change::clear;
 use state::change::set_device;
@@ -104,14 +109,21 @@ fn move_listed(
     }
 }
 
-// Code 5: the partition exists.
+// The status that creation sets, by its code.
+fn created_status(code: usize) -> u8
+    ensures { λ r. ⌜ r ≡ cond (eqb code greenCode) greenStatus plainStatus ⌝ }
+{
+    if code == GREEN_CODE { GREEN } else { EXISTING }
+}
+
+// Codes 5 and 13: the partition exists, a green zone by 13.
 pub fn create_partition(area: &mut [u8], room: usize, op: Operation)
     requires { ⌜ length (now area) ≡ areaLength room ⌝ }
     ensures { λ _.
         ⌜ ((config : Config) (a : Actor) → now (area .exit)
         ≡ layout (apply config op Create a (view room (now (area .entry))))) ⌝ }
 {
-    set_status(area, room, op.partition, EXISTING);
+    set_status(area, room, op.partition, created_status(op.code));
 }
 
 // Code 6: the partition is destroyed.

@@ -1,4 +1,4 @@
--- A call by its ways out: the file is refused, a question of 7 to 21 is answered with no, or the operation is carried
+-- A call by its ways out: the file is refused, a question of 7 to 22 is answered with no, or the operation is carried
 -- out. Assumes nothing.
 use Prim.Native.Nat.{ℕ, zero, suc, _≤_, _<_}
 use mathlib.Core.Path.{_≡_, refl, sym, ap, _∙_}
@@ -12,7 +12,7 @@ use Rattle.model.specs.ConfigFile.{load}
 use Rattle.model.specs.State.{State, records, areaLength, view, layout, wellFormed}
 use Rattle.model.specs.Operation.{familyOf, actorOf, readOperation}
 use Rattle.model.specs.Effect.{answerBytes, answered}
-use Rattle.model.specs.Questions.{q11, q12, q13, q18, q19, q20, q21, ask}
+use Rattle.model.specs.Questions.{q11, q12, q13, q14, q15, q16, q17, q18, q19, q20, q21, q22, ask}
 use Rattle.model.specs.Gate.{orElse, applied, judged, verdict, outcome, operate}
 use Rattle.model.specs.Programs.{Operated}
 use Rattle.model.specs.declared.Family.{Family}
@@ -27,6 +27,7 @@ use Rattle.searches.specs.Ready.{Complete, Asked}
 use Rattle.searches.specs.Asking.{stores, leaves, enters}
 use Rattle.gate.specs.Carried.{carried}
 use Rattle.searches.proofs.Asking
+use Rattle.searches.proofs.Unnamed
 
 -- the answer and both areas are those of the definition
 abbrev pub Carried : ℕ → Config → List ℕ → List ℕ → List ℕ → ℕ → List ℕ → List ℕ → Type 0
@@ -52,7 +53,7 @@ module _ (file area bytes answer : List ℕ) {l : Loaded} (e : l ≡ load file) 
   unfolding operate carried
   file-accepted z k h = rw (← e, z, ← k) (h .0, h .1 .0, h .1 .1)
 
--- questions 7 to 21
+-- questions 7 to 22
 module _ (config : Config) (room : ℕ) (area bytes answer : List ℕ) where
   refused : {n : ℕ} → (n ≡ 0 → ⊥) → verdict room config (readOperation bytes) area answer ≡ n
       → Carried room config area bytes answer n area answer
@@ -109,13 +110,13 @@ neither true y z h = absurd (true≢false h)
 neither false true z h = absurd (true≢false h)
 neither false false z h = (refl, refl, h)
 
--- questions 11 to 21
+-- questions 11 to 22
 module _ (config : Config) (b : State) (op : Operation) {q : ℕ}
     (e : q ≡ firstNo config b op (familyOf (op .code)) (actorOf (op .code)) 0) where
   rest : Family → Actor → ℕ
   rest f a =
       ask 18 (q18 config b op f a) (ask 19 (q19 config b op f a) (ask 20 (q20 config b op f a)
-      (ask 21 (q21 config b op f a) 0)))
+      (ask 22 (q22 config b op f a) (ask 21 (q21 config b op f a) 0))))
 
   joined : judged config op b ≡ orElse q (rest (familyOf (op .code)) (actorOf (op .code)))
   unfolding rest
@@ -137,18 +138,32 @@ module _ (config : Config) (b : State) (op : Operation) {q : ℕ}
         joined ∙ (ap (λ (n : ℕ). orElse n (rest (familyOf (op .code)) (actorOf (op .code)))) z
         ∙ (ap (λ (x : Family). rest x (actorOf (op .code))) (sym k) ∙ ap (rest f) (sym l)))
 
+    none : firstNo config b op f a 0 ≡ 0
+    none =
+        ap (λ (x : Family). firstNo config b op x a 0) k
+        ∙ (ap (λ (x : Actor). firstNo config b op (familyOf (op .code)) x 0) l ∙ (sym e ∙ z))
+
+    -- question 17 was a yes
+    pub placed-of : q17 b op f a ≡ true
+    unfolding firstNo namesNo placesNo
+    placed-of =
+        let h₁ = asked 10 (q11 config op f a) _ none in
+        let h₂ = asked 11 (q12 op f) _ (h₁ .1) in
+        let h₃ = asked 12 (q13 config op f) _ (h₂ .1) in
+        let h₄ = asked 13 (q14 b op f a) _ (h₃ .1) in
+        let h₅ = asked 14 (q15 b op f) _ (h₄ .1) in
+        let h₆ = asked 15 (q16 b op f a) _ (h₅ .1) in
+        asked 16 (q17 b op f a) _ (h₆ .1) .0
+
     pub asked-of : Complete op → Asked config op f a
     unfolding firstNo namesNo placesNo
     asked-of c =
-        let h : firstNo config b op f a 0 ≡ 0 =
-        ap (λ (x : Family). firstNo config b op x a 0) k
-        ∙ (ap (λ (x : Actor). firstNo config b op (familyOf (op .code)) x 0) l ∙ (sym e ∙ z)) in
-        let h₁ = asked 10 (q11 config op f a) _ h in
+        let h₁ = asked 10 (q11 config op f a) _ none in
         let h₂ = asked 11 (q12 op f) _ (h₁ .1) in
         let h₃ = asked 12 (q13 config op f) _ (h₂ .1) in
         record { complete = c; family = k; actor = l; p11 = h₁ .0; p13 = h₃ .0 }
 
-    -- a code that 18 to 21 are not about
+    -- a code that 18 to 22 are not about
     pub none-asked : {t : Bool} → t ≡ (stores f || leaves f || enters f a) → t ≡ false → 0 ≡ judged config op b
     unfolding rest
     none-asked e h =
@@ -156,7 +171,8 @@ module _ (config : Config) (b : State) (op : Operation) {q : ℕ}
         sym (by-rest ∙ rw (
           ← Asking.q18-free config b op f a (n .0),
           ← Asking.q19-free config b op f a (n .0),
-          ← Asking.q20-free config b op f a (n .1),
+          ← Unnamed.q20-free config b op f a (n .1),
+          ← Asking.q22-free config b op f a (n .0) (n .2),
           ← Asking.q21-free config b op f a (n .2),
         ))
 
@@ -165,12 +181,20 @@ module _ (config : Config) (b : State) (op : Operation) {q : ℕ}
       unfolding rest
       no-18 h = sym (by-rest ∙ rw (← e₁₈, h))
 
-      module _ (y₁₈ : t₁₈ ≡ true) {tₙ : Bool} (eₙ : tₙ ≡ (q19 config b op f a && q21 config b op f a)) where
+      module _ (y₁₈ : t₁₈ ≡ true) {t₂₂ : Bool} (e₂₂ : t₂₂ ≡ q22 config b op f a) where
+        -- 19 and 20 are not put where 22 says no
+        pub no-22 : t₂₂ ≡ false → 22 ≡ judged config op b
+        unfolding rest
+        no-22 h = sym (by-rest ∙ rw (← e₁₈, y₁₈) (Asking.green-number config b op f a (sym e₂₂ ∙ h)))
+
+      module _ (y₁₈ : t₁₈ ≡ true) {t₂₂ : Bool} (e₂₂ : t₂₂ ≡ q22 config b op f a) (y₂₂ : t₂₂ ≡ true) {tₙ : Bool}
+          (eₙ : tₙ ≡ (q19 config b op f a && q21 config b op f a)) where
         -- 20 is not put where 19 or 21 is
         pub no-next : tₙ ≡ false → {n : ℕ} → n ≡ cond (enters f a) 21 19 → n ≡ judged config op b
         unfolding rest
         no-next h k =
-            k ∙ sym (by-rest ∙ rw (← e₁₈, y₁₈) (Asking.next-number config b op f a (sym eₙ ∙ h)))
+            k ∙ sym (by-rest ∙ rw (← e₁₈, y₁₈) (Asking.green-passed config b op f a (sym e₂₂ ∙ y₂₂)
+            ∙ Asking.next-number config b op f a (sym eₙ ∙ h)))
 
         module _ (yₙ : tₙ ≡ true) where
           yes : (q19 config b op f a ≡ true) × (q21 config b op f a ≡ true)
@@ -182,8 +206,8 @@ module _ (config : Config) (b : State) (op : Operation) {q : ℕ}
 
           pub all-yes : {t₂₀ : Bool} → t₂₀ ≡ q20 config b op f a → t₂₀ ≡ true → 0 ≡ judged config op b
           unfolding rest
-          all-yes e₂₀ h = sym (by-rest ∙ rw (← e₁₈, y₁₈, yes .0, ← e₂₀, h, yes .1))
+          all-yes e₂₀ h = sym (by-rest ∙ rw (← e₁₈, y₁₈, yes .0, ← e₂₀, h, ← e₂₂, y₂₂, yes .1))
 
           -- a code that 20 is not about
           pub stays : {t : Bool} → t ≡ leaves f → t ≡ false → 0 ≡ judged config op b
-          stays k h = all-yes (Asking.q20-free config b op f a (sym k ∙ h)) refl
+          stays k h = all-yes (Unnamed.q20-free config b op f a (sym k ∙ h)) refl

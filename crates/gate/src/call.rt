@@ -1,4 +1,4 @@
-// One operation call whose configuration was accepted: questions 7 to 21, and then the effect. `room` is how many
+// One operation call whose configuration was accepted: questions 7 to 22, and then the effect. `room` is how many
 // object records the state area has.
 ghost use mathlib.Core.Path.{_≡_};
 ghost use Prim.Native.Nat.{_≤_};
@@ -24,13 +24,14 @@ use searches::next::follows_confined;
 use searches::next::is_entering;
 use searches::transfers::are_described;
 use searches::transfers::is_storing;
+use searches::zones::keeps_green;
 use state::formed::is_formed;
 use state::look::right_length;
 
 // The answer where every question is a yes.
 const ACCEPTED: u8 = 0;
 
-// Questions 18 to 21 are about writes, copies, deactivations and devices that are brought in.
+// Questions 18 to 22 are about writes, copies, deactivations and devices that are brought in.
 fn is_searched(f: Family, a: Actor) -> bool
     ensures { λ r. ⌜ r ≡ (stores f || leaves f || enters f a) ⌝ }
 {
@@ -44,7 +45,8 @@ fn next_number(f: Family, a: Actor) -> u8
     if is_entering(f, a) { 21 } else { 19 }
 }
 
-// The number of the first of the questions 11 to 21 that is answered with no, or 0.
+// The number of the first of the questions 11 to 22 that is answered with no, or 0. 22 comes before 19 and 20, which are
+// not put where it says no. What 20 is not about goes no further: a call of it would copy the configuration.
 fn judge_all(config: Config, area: &[u8], room: usize, op: Operation) -> u8
     requires { ⌜ Ready config room (now area) ⌝ }
     requires { ⌜ Complete op ⌝ }
@@ -69,10 +71,12 @@ fn judge_all(config: Config, area: &[u8], room: usize, op: Operation) -> u8
     if !are_described(config, area, room, op, f, a) {
         return 18;
     }
+    if !keeps_green(config, area, room, op, f, a) {
+        return 22;
+    }
     if !follows_confined(config, area, room, op, f, a) {
         return next_number(f, a);
     }
-    // What 20 is not about goes no further: a call of it would copy the configuration.
     if !is_leaving(f) {
         return ACCEPTED;
     }

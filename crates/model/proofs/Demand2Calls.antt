@@ -1,20 +1,21 @@
--- Demand 2 on whole operation calls: accepted exactly if each of the twenty-one questions is a yes; with 1 to 18 a
--- yes, refused by 19, 20 or 21 exactly where the rules of the closure give an entry for it.
+-- Demand 2 on whole operation calls: accepted exactly if each of the twenty-two questions is a yes; with 1 to 18 a
+-- yes, refused by 19, 20 or 21 exactly where the rules of the closure give an entry for it, and by 22 where a value
+-- breaks the rule of a green zone.
 use Prim.Native.Nat.{ℕ, zero, suc}
 use mathlib.Core.Path.{_≡_, refl, sym, ap, _∙_, subst}
-use mathlib.Core.Logic.{_↔_, inl, inr}
+use mathlib.Core.Logic.{_↔_, _⊎_, inl, inr}
 use mathlib.Core.List.{List}
-use mathlib.Core.Bool.{true, false≢true}
+use mathlib.Core.Bool.{true, false, false≢true}
 use native.Mathlib.Omega.{arith}
 use lib.ListN.{length}
 use lib.Dec.{leb, eqb}
 use borrow.Author.Tests.{eqb-true, eq-eqb, le-leb, leb-true}
 use Rattle.model.specs.ConfigFile.{load}
-use Rattle.model.specs.State.{State, records, areaLength, wellFormed}
+use Rattle.model.specs.State.{State, green, records, areaLength, wellFormed}
 use Rattle.model.specs.Closure.{active}
 use Rattle.model.specs.Operation.{familyOf, actorOf, readOperation}
 use Rattle.model.specs.Effect.{answerBytes, apply, concerned}
-use Rattle.model.specs.Questions.{itself, judge}
+use Rattle.model.specs.Questions.{itself, q22, judge}
 use Rattle.model.specs.Gate.{orElse, verdict, outcome, applied, operate}
 use Rattle.model.specs.Demand2 as D
 use Rattle.model.specs.Demand2.{
@@ -26,12 +27,18 @@ use Rattle.model.specs.Demand2.{
   AllYes,
   Acceptance,
   ByDriver,
+  driversZone,
   SomeCrosses,
   Refusal19,
   Leaving,
   SomeNames,
+  SomeClings,
   Refusal20,
+  SomeBreaks,
+  Refusal22,
   Entering,
+  RingEnters,
+  Entering22,
   Refusal21,
   Demand2,
 }
@@ -51,8 +58,12 @@ use Rattle.model.proofs.Demand2.{
   write-19,
   copy-19,
   deactivate-20,
+  Green22,
+  green-22,
+  activate-22,
   activate-21,
 }
+use Rattle.model.proofs.GreenRefusals.{Clinging}
 use Rattle.model.proofs.FreshAnswers.{or-zero}
 use Rattle.model.proofs.Answers as answers
 use Rattle.model.proofs.Answers.{answer-zero}
@@ -70,7 +81,7 @@ module _ (file area bytes answer : List ℕ) where
   -- 0 exactly if each is a yes
   accepted-yes : answers.AllYes file area bytes answer → AllYes file area bytes answer
   accepted-yes y =
-      let p = y .p11-21 in
+      let p = y .p11-22 in
       record {
         y1-18 = record {
           y1-6 = file-yes file .0 (y .p1-6);
@@ -89,6 +100,7 @@ module _ (file area bytes answer : List ℕ) where
         };
         y19 = p .p19;
         y20 = p .p20;
+        y22 = p .p22;
         y21 = p .p21;
       }
 
@@ -101,7 +113,7 @@ module _ (file area bytes answer : List ℕ) where
         p8 = le-leb answerBytes (length answer) (u .y8);
         p9 = u .y9;
         p10 = u .y10;
-        p11-21 = record {
+        p11-22 = record {
           p11 = u .y11;
           p12 = u .y12;
           p13 = u .y13;
@@ -113,10 +125,11 @@ module _ (file area bytes answer : List ℕ) where
           p19 = y .y19;
           p20 = y .y20;
           p21 = y .y21;
+          p22 = y .y22;
         };
       }
 
-  -- with 1 to 10 a yes, a call answers what 11 to 21 answer
+  -- with 1 to 10 a yes, a call answers what 11 to 22 answer
   answered : (n : ℕ) → (outcome (records config) n config op area answer) .0 ≡ n
   answered zero = refl
   answered (suc n) = refl
@@ -177,20 +190,48 @@ module _ (file area bytes answer : List ℕ) where
           λ q. j ∙ w .1 (crossed (apply config op f a state) .1 (subst (SomeCrosses config) (sym i) q)),
         )
 
-    driver-19 : ByDriver op
+    driver-19 : ByDriver op → green state (driversZone state op) ≡ false
         → ((operate file area bytes answer) .0 ≡ 19) ↔ SomeCrosses config (applied config op state)
-    driver-19 (inl h) =
+    driver-19 (inl h) plain =
         by-search 19 Write Driver (ap familyOf h) (ap actorOf h)
-        (write-19 config state op (upto Write Driver (ap familyOf h) (ap actorOf h)))
-    driver-19 (inr h) =
+        (write-19 config state op (upto Write Driver (ap familyOf h) (ap actorOf h)) plain)
+    driver-19 (inr h) plain =
         by-search 19 Copy Driver (ap familyOf h) (ap actorOf h)
-        (copy-19 config state op (upto Copy Driver (ap familyOf h) (ap actorOf h)))
+        (copy-19 config state op (upto Copy Driver (ap familyOf h) (ap actorOf h)) plain)
 
-    device-21 : Entering op
+    -- question 22: a write or a copy in a green zone
+    by-green : (f : Family) → familyIn bytes ≡ f → actorIn bytes ≡ Driver → Green22 config state op f
+        → green state (driversZone state op) ≡ true
+        → (((operate file area bytes answer) .0 ≡ 22) ↔ SomeBreaks config state op (familyIn bytes))
+        × ((operate file area bytes answer) .0 ≡ 19 → ⊥)
+    by-green f d e rule g =
+        let j = judged-as f Driver d e in
+        let w = rule (upto f Driver d e) g in
+        let breaks : Family → Type 0 = λ x. SomeBreaks config state op x in (
+          ((λ h. subst breaks (sym d) (w .0 .0 (sym j ∙ h))), λ q. j ∙ w .0 .1 (subst breaks d q)),
+          λ h. w .1 (sym j ∙ h),
+        )
+
+    driver-22 : ByDriver op → green state (driversZone state op) ≡ true
+        → (((operate file area bytes answer) .0 ≡ 22) ↔ SomeBreaks config state op (familyIn bytes))
+        × ((operate file area bytes answer) .0 ≡ 19 → ⊥)
+    driver-22 (inl h) g = by-green Write (ap familyOf h) (ap actorOf h) (green-22 config state op .0) g
+    driver-22 (inr h) g = by-green Copy (ap familyOf h) (ap actorOf h) (green-22 config state op .1) g
+
+    device-22 : Entering op
+        → ((operate file area bytes answer) .0 ≡ 22) ↔ ((green state (op .partition) ≡ true) × RingEnters config op)
+    device-22 h =
+        let j = judged-as Activate Device (ap familyOf h) (ap actorOf h) in
+        let w = activate-22 config state op (upto Activate Device (ap familyOf h) (ap actorOf h)) in
+        ((λ k. w .0 (sym j ∙ k)), λ q. j ∙ w .1 q)
+
+    device-21 : Entering op → q22 config state op (familyIn bytes) (actorIn bytes) ≡ true
         → ((operate file area bytes answer) .0 ≡ 21) ↔ SomeCrosses config (applied config op state)
-    device-21 h =
+    device-21 h y =
         by-search 21 Activate Device (ap familyOf h) (ap actorOf h)
-        (activate-21 config state op (upto Activate Device (ap familyOf h) (ap actorOf h)))
+        (activate-21 config state op (upto Activate Device (ap familyOf h) (ap actorOf h))
+        (subst (λ (a : Actor). q22 config state op Activate a ≡ true) (ap actorOf h)
+        (subst (λ (f : Family). q22 config state op f (actorIn bytes) ≡ true) (ap familyOf h) y)))
 
     -- question 20: 'another device' is a device other than the one that leaves, which there is in code 11 alone
     module _ (a : Actor) (code : actorIn bytes ≡ a)
@@ -214,17 +255,28 @@ module _ (file area bytes answer : List ℕ) where
       )
 
       by-20 : familyIn bytes ≡ Deactivate
-          → ((operate file area bytes answer) .0 ≡ 20) ↔ SomeNames config state op
+          → ((operate file area bytes answer) .0 ≡ 20) ↔ (SomeNames config state op ⊎ SomeClings config state op)
       by-20 d =
           let w = deactivate-20 config state op a (upto Deactivate a d code) in
           let j = judged-as Deactivate a d code in
-          ((λ h. named .0 (w .0 (sym j ∙ h))), λ q. j ∙ w .1 (named .1 q))
+          ((λ h. to (w .0 (sym j ∙ h))), λ q. j ∙ w .1 (from q))
+        where
+          to : Naming config state op a ⊎ Clinging config state op a
+              → SomeNames config state op ⊎ SomeClings config state op
+          to (inl q) = inl (named .0 q)
+          to (inr q) = inr (subst (Clinging config state op) (sym code) q)
+
+          from : SomeNames config state op ⊎ SomeClings config state op
+              → Naming config state op a ⊎ Clinging config state op a
+          from (inl q) = inl (named .1 q)
+          from (inr q) = inr (subst (Clinging config state op) code q)
 
     -- number 0 names no active device
     no-zero : (c : ℕ) → active state c ≡ true → c ≡ 0 → ⊥
     no-zero c h e = false≢true (subst (λ (n : ℕ). active state n ≡ true) e h)
 
-    leaving-20 : Leaving op → ((operate file area bytes answer) .0 ≡ 20) ↔ SomeNames config state op
+    leaving-20 : Leaving op
+        → ((operate file area bytes answer) .0 ≡ 20) ↔ (SomeNames config state op ⊎ SomeClings config state op)
     leaving-20 (inl h) =
         by-20 Driver (ap actorOf h) (λ c d k. absurd (omega arith)) (λ c l d. no-zero c l) (ap familyOf h)
     leaving-20 (inr (inl h)) =
@@ -232,7 +284,7 @@ module _ (file area bytes answer : List ℕ) where
     leaving-20 (inr (inr h)) =
         by-20 External (ap actorOf h) (λ c d k. absurd (omega arith)) (λ c l d. no-zero c l) (ap familyOf h)
 
--- demand 2: the four statements
+-- demand 2: the six statements
 pub acceptance : Acceptance
 acceptance file area bytes answer = (
   (λ h. accepted-yes file area bytes answer (answer-zero file area bytes answer .0 h)),
@@ -245,6 +297,12 @@ refusal-19 file area bytes answer u = driver-19 file area bytes answer u
 pub refusal-20 : Refusal20
 refusal-20 file area bytes answer u = leaving-20 file area bytes answer u
 
+pub refusal-22 : Refusal22
+refusal-22 file area bytes answer u = driver-22 file area bytes answer u
+
+pub entering-22 : Entering22
+entering-22 file area bytes answer u = device-22 file area bytes answer u
+
 pub refusal-21 : Refusal21
 refusal-21 file area bytes answer u = device-21 file area bytes answer u
 
@@ -254,5 +312,7 @@ demand-2 =
       accepted = acceptance;
       refused-19 = refusal-19;
       refused-20 = refusal-20;
+      refused-22 = refusal-22;
+      entering-22 = entering-22;
       refused-21 = refusal-21;
     }

@@ -22,13 +22,18 @@ pub mod SmallLines
 pub mod Hardcoded
 pub mod ClosureLaws
 pub mod Confinement
+pub mod Locality
+pub mod Green
 pub mod ClosureBound
 pub mod ClosureExact
 pub mod StateLaws
 pub mod StateBytes
 pub mod Facts
 pub mod Stores
+pub mod GreenStores
+pub mod StoresKept
 pub mod Moves
+pub mod Zones
 pub mod Deactivation
 pub mod Activation
 pub mod Calls
@@ -40,6 +45,8 @@ pub mod FormedStores
 pub mod FormedStatus
 pub mod FormedMoves
 pub mod Reached
+pub mod GreenPasses
+pub mod GreenRefusals
 pub mod Rings
 pub mod Demand2
 pub mod OperationRange

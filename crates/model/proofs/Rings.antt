@@ -20,11 +20,12 @@ use Rattle.model.specs.Operation.{
   readOperation,
 }
 use Rattle.model.specs.Effect.{answerBytes, apply}
-use Rattle.model.specs.Questions.{q11, q12, q13, q14, q15, q16, q17, q18, q19, q20, q21, ask, judge}
+use Rattle.model.specs.Questions.{q11, q12, q13, q14, q15, q16, q17, q18, q19, q20, q21, q22, ask, judge}
+use Rattle.model.specs.Questions.{ringless}
 use Rattle.model.specs.Gate.{makeFresh, orElse, judged, operate}
 use Rattle.model.specs.Separation.{Call, answersOf, areaAfter, final}
 use Rattle.model.specs.Demand2.{configIn, operationIn, Entering}
-use Rattle.model.specs.Rings.{ringless, Ringless, Never21, NoRings}
+use Rattle.model.specs.Rings.{Ringless, Never21, NoRings}
 use Rattle.model.specs.declared.Parse.{Parse}
 use Rattle.model.specs.declared.Family.{Family}
 use Rattle.model.specs.declared.Family.the-variants.{Write, Copy, Create, Destroy, Activate, Deactivate}
@@ -38,7 +39,7 @@ use Rattle.model.proofs.Accepted.{Sound, load-sound}
 use Rattle.model.proofs.Facts.{Upto18}
 use Rattle.model.proofs.Stores.{Kept}
 use Rattle.model.proofs.Moves.{actor-exists}
-use Rattle.model.proofs.Activation.{quiet-device, quiet-confined}
+use Rattle.model.proofs.Activation.{quiet-in, quiet-confined}
 use Rattle.model.proofs.Calls.{fresh-zero}
 use Rattle.model.proofs.Formed.{FormedBy, formed-to}
 use Rattle.model.proofs.Demand2.{ask-last}
@@ -123,7 +124,8 @@ module _ (config : Config) (b : State) (op : Operation) where
       let h₇ = asked-past 17 21 (q17 b op f a) _ (λ z. omega arith) (h₆ .1) in
       let h₈ = asked-past 18 21 (q18 config b op f a) _ (λ z. omega arith) (h₇ .1) in
       let h₉ = asked-past 19 21 (q19 config b op f a) _ (λ z. omega arith) (h₈ .1) in
-      let h₀ = asked-past 20 21 (q20 config b op f a) _ (λ z. omega arith) (h₉ .1) in (
+      let h₀ = asked-past 20 21 (q20 config b op f a) _ (λ z. omega arith) (h₉ .1) in
+      let h₂₂ = asked-past 22 21 (q22 config b op f a) _ (λ z. omega arith) (h₀ .1) in (
         record {
           p11 = h₁ .0;
           p12 = h₂ .0;
@@ -134,7 +136,7 @@ module _ (config : Config) (b : State) (op : Operation) where
           p17 = h₇ .0;
           p18 = h₈ .0;
         },
-        ask-last 20 (q21 config b op f a) .0 (h₀ .1),
+        ask-last 20 (q21 config b op f a) .0 (h₂₂ .1),
       )
 
   -- question 21 is put where a device comes in
@@ -157,7 +159,7 @@ module _ (config : Config) (b : State) (op : Operation) where
     ringless-21 p quiet =
         confined-exact config (apply config op Activate Device b) .1
         (quiet-confined config sound op b kept (formed-to _ config b formed) Device p
-        (quiet-device config sound op b kept quiet))
+        (quiet-in config sound op b kept Device quiet))
 
     never-judged : (Entering op → Ringless config (op .subject)) → judged config op b ≡ 21 → ⊥
     never-judged quiet h =

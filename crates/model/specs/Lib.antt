@@ -11,6 +11,7 @@ pub mod Questions
 pub mod Gate
 pub mod Trace
 pub mod Separation
+pub mod Green
 pub mod Office
 pub mod Rewriting
 pub mod Programs

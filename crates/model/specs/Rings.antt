@@ -3,22 +3,12 @@
 use Prim.Native.Nat.{ℕ, _≤_}
 use mathlib.Core.Path.{_≡_}
 use mathlib.Core.List.{List, List·Memᴰ}
-use mathlib.Core.Bool.{Bool, true, not, _||_}
-use Rattle.model.specs.Base.{all}
-use Rattle.model.specs.Config.{hardcodedOf, Entry, writes, entries}
-use Rattle.model.specs.Questions.{isKind}
+use mathlib.Core.Bool.{true}
+use Rattle.model.specs.Questions.{ringless}
 use Rattle.model.specs.Gate.{makeFresh, operate}
 use Rattle.model.specs.Separation.{Call, answersOf, areaAfter}
 use Rattle.model.specs.Demand2.{configIn, operationIn, Entering}
 use Rattle.model.specs.declared.Config.{Config}
-
--- document 02, N4: an entry that writes no kind 1 object
-abbrev pub quietEntry : Config → Entry → Bool
-quietEntry config e = not (isKind config 1 (e .object)) || not (writes e)
-
--- document 02, N4: the hardcoded value of device c writes no kind 1 object, so that the device has no ring
-abbrev pub ringless : Config → ℕ → Bool
-ringless config c = all (quietEntry config) (entries config (hardcodedOf config c))
 
 -- document 02, N4: number c names no device with a ring
 abbrev pub Ringless : Config → ℕ → Type 0

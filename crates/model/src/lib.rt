@@ -40,7 +40,7 @@ pub const READ_MODE: u8 = 1;
 
 pub const WRITE_MODE: u8 = 2;
 
-const BOTH_MODE: u8 = 3;
+pub const BOTH_MODE: u8 = 3;
 
 pub const MOST_MODE: u8 = BOTH_MODE;
 
@@ -65,6 +65,9 @@ pub const ENTRY_SLOTS: usize = ENTRY_BYTES * (MOST_ENTRIES as usize * VALUE_SLOT
 pub const MOST_ITEMS: usize = 8;
 
 pub const CONTENT_BYTES: usize = 16;
+
+// The code that creates a green zone (document 02, N5).
+pub const GREEN_CODE: usize = 13;
 
 // Why the bytes at a place are no number.
 pub enum Fault {

@@ -13,6 +13,7 @@ use borrow.Author.Tests.{le-leb, lt-leb, leb-true, eq-eqb, ne-eqb}
 use Rattle.model.specs.Number.{mostNumber, mostBytes, lead, valueOf, shortest, formed, formAt, headAt, numberAt}
 use Rattle.model.specs.Operation.{
   mostCode,
+  greenCode,
   mostItems,
   familyOf,
   actorOf,
@@ -44,7 +45,7 @@ use Rattle.model.specs.Operation.{
 use Rattle.model.specs.declared.Fault.{Fault}
 use Rattle.model.specs.declared.Fault.the-variants.{Cut, Form}
 use Rattle.model.specs.declared.Actor.the-variants.{Driver, Device, External}
-use Rattle.model.specs.declared.Family.the-variants.{Write, Copy, Activate, Deactivate}
+use Rattle.model.specs.declared.Family.the-variants.{Write, Copy, Create, Activate, Deactivate}
 use Rattle.model.specs.declared.Num.{Num}
 use Rattle.model.specs.declared.Num.the-variants.{Got, Bad}
 use Rattle.model.specs.declared.Operation.{Operation}
@@ -211,6 +212,10 @@ module _ (s : List ℕ) (code at : ℕ) where
   unfolding only counted element beforeElements copying
   copy-arm h k p = p ∙ arm copying 2 3 h (omega arith) (refl, (refl, tt))
 
+  pub green-arm : {r : Parse} → code ≡ greenCode → r ≡ partitioning code s at → r ≡ afterCode s code at
+  unfolding only
+  green-arm h p = p ∙ arm partitioning 1 greenCode (omega arith) (omega arith) (refl, tt)
+
   pub partitioning-arm : {r : Parse} → 5 ≤ code → code ≤ 6 → r ≡ partitioning code s at → r ≡ afterCode s code at
   unfolding only
   partitioning-arm h k p = p ∙ arm partitioning 2 5 h (omega arith) (refl, (refl, tt))
@@ -264,6 +269,10 @@ module _ (s : List ℕ) {f : Num} (h : f ≡ numberAt s 0) {r : Parsed} where
     whole-read z l p q = rw (← h, e) (rw (← g, z, eq-eqb (parse .at) (length s) l) (p, q))
 
 -- a code's family and actor
+pub create-family : (code : ℕ) → (code ≡ 5) ⊎ (code ≡ greenCode) → Create ≡ familyOf code
+create-family code (inl e) = rw e
+create-family code (inr e) = rw e
+
 pub write-family : (code : ℕ) → code ≤ 2 → Write ≡ familyOf code
 write-family code h = each-at (λ n. Write ≡ familyOf n) 3 0 code (omega arith) (omega arith) (refl, (refl, (refl, tt)))
 
@@ -273,12 +282,13 @@ copy-family code h k = each-at (λ n. Copy ≡ familyOf n) 2 3 code h (omega ari
 pub activate-family : (code : ℕ) → 7 ≤ code → code ≤ 9 → Activate ≡ familyOf code
 activate-family code h k = each-at (λ n. Activate ≡ familyOf n) 3 7 code h (omega arith) (refl, (refl, (refl, tt)))
 
-pub deactivate-family : (code : ℕ) → 10 ≤ code → Deactivate ≡ familyOf code
-deactivate-family code h =
+pub deactivate-family : (code : ℕ) → 10 ≤ code → (code ≡ greenCode → ⊥) → Deactivate ≡ familyOf code
+deactivate-family code h g =
     rw (
       lt-leb code 2 (omega arith),
       lt-leb code 4 (omega arith),
       ne-eqb code 5 (λ e. omega arith),
+      ne-eqb code greenCode g,
       ne-eqb code 6 (λ e. omega arith),
       lt-leb code 9 (omega arith),
     )

@@ -23,7 +23,7 @@ pub fn family_of(code: usize) -> Family
     match code {
         0..=2 => Family::Write,
         3..=4 => Family::Copy,
-        5 => Family::Create,
+        5 | 13 => Family::Create,
         6 => Family::Destroy,
         7..=9 => Family::Activate,
         _ => Family::Deactivate,
@@ -69,7 +69,7 @@ fn read_counted(s: &[u8], e: Element, code: usize, at: usize) -> Parse
     read_elements(s, e, n, b, op)
 }
 
-// Codes 5 and 6: the partition to create or destroy.
+// Codes 5, 6 and 13: the partition to create or destroy.
 fn read_partition(s: &[u8], code: usize, at: usize) -> Parse
     ensures { λ r. ⌜ r ≡ partitioning code (now (s .entry)) at ⌝ }
 {
@@ -120,6 +120,7 @@ pub(crate) fn arguments(s: &[u8], code: usize, at: usize) -> Parse
         7..=8 => read_activation(s, code, at),
         9 | 12 => read_counted(s, Element::Object, code, at),
         10..=11 => read_deactivation(s, code, at),
+        13 => read_partition(s, code, at),
         _ => stop(),
     }
 }

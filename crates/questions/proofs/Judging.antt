@@ -31,6 +31,7 @@ use Rattle.model.specs.Questions.{
   q19,
   q20,
   q21,
+  q22,
   ask,
   judge,
 }
@@ -298,6 +299,6 @@ module _ (config : Config) (b : State) (op : Operation) (f : Family) (a : Actor)
   pub judge-first : judge config b op f a
       ≡ firstNo config b op f a
       (ask 18 (q18 config b op f a) (ask 19 (q19 config b op f a) (ask 20 (q20 config b op f a)
-      (ask 21 (q21 config b op f a) 0))))
+      (ask 22 (q22 config b op f a) (ask 21 (q21 config b op f a) 0)))))
   unfolding firstNo namesNo placesNo judge
   judge-first = refl

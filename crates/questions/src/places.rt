@@ -13,10 +13,10 @@ use model::Operation;
 use operation::columns::number_of;
 use state::DEVICE_BYTES;
 use state::DRIVER_BYTES;
-use state::EXISTING;
 use state::UNUSED;
 use state::look::device;
 use state::look::driver;
+use state::look::is_existing;
 use state::look::object;
 use state::look::status;
 
@@ -29,12 +29,12 @@ pub fn status_fits(area: &[u8], room: usize, op: Operation, f: Family, a: Actor)
         Family::Write => true,
         Family::Copy => true,
         Family::Create => status(area, room, op.partition) == UNUSED,
-        Family::Destroy => status(area, room, op.partition) == EXISTING,
-        Family::Activate => status(area, room, op.partition) == EXISTING,
+        Family::Destroy => is_existing(area, room, op.partition),
+        Family::Activate => is_existing(area, room, op.partition),
         Family::Deactivate => match a {
             Actor::Driver => true,
             Actor::Device => true,
-            Actor::External => status(area, room, op.partition) == EXISTING,
+            Actor::External => is_existing(area, room, op.partition),
         },
     }
 }

@@ -1,17 +1,26 @@
--- Questions 18 to 21 from their parts. Assumes nothing.
+-- Questions 18 to 22 from their parts. Assumes nothing.
 use Prim.Native.Nat.{ℕ, zero, suc}
 use mathlib.Core.Path.{_≡_, refl, sym, ap, _∙_, subst}
 use mathlib.Core.List.{List}
-use mathlib.Core.Bool.{Bool, true, false, cond, _&&_, true≢false, false≢true}
-use lib.ListN.{getD}
-use lib.Dec.{eqb}
-use borrow.Author.Tests.{eq-eqb, ne-eqb}
+use mathlib.Core.Bool.{Bool, true, false, not, cond, _&&_, _||_, true≢false, false≢true}
+use borrow.Author.Tests.{eq-eqb, ne-eqb, not-true, not-false}
 use Rattle.model.specs.Base.{below}
-use Rattle.model.specs.State.{State, held, view, layout}
+use Rattle.model.specs.State.{State, green, held, view, layout}
 use Rattle.model.specs.Operation.{objectAt, secondAt}
-use Rattle.model.specs.Effect.{apply, concerned}
-use Rattle.model.specs.Closure.{confined, unnamed, described}
-use Rattle.model.specs.Questions.{readEntry, writeEntry, transfer, q18, q19, q20, q21, itself, ask}
+use Rattle.model.specs.Effect.{apply}
+use Rattle.model.specs.Closure.{confined, described}
+use Rattle.model.specs.Questions.{
+  readEntry,
+  writeEntry,
+  transfer,
+  zoneOf,
+  q18,
+  q19,
+  q20,
+  q21,
+  q22,
+  ask,
+}
 use Rattle.model.specs.Gate.{applied}
 use Rattle.model.specs.declared.Family.{Family}
 use Rattle.model.specs.declared.Family.the-variants.{Write, Copy, Create, Destroy, Activate, Deactivate}
@@ -20,29 +29,38 @@ use Rattle.model.specs.declared.Actor.the-variants.{Driver, Device, External}
 use Rattle.model.specs.declared.Config.{Config}
 use Rattle.model.specs.declared.Operation.{Operation}
 use Rattle.questions.specs.Items.{allBelow}
+use Rattle.green.specs.Rule.{byDevice}
 use Rattle.searches.specs.Ready.{Searchable, Ready, Asked}
 use Rattle.searches.specs.Asking.{
   stores,
   leaves,
-  byDevice,
   activates,
   enters,
   follows,
   pairDescribed,
   transferOf,
   itemDescribed,
-  Marks,
 }
 use Rattle.searches.proofs.Readying
+use Rattle.searches.proofs.Unnamed.{q20-free}
 
--- only a deactivation leaves
-pub leaves-is : (f : Family) → leaves f ≡ true → f ≡ Deactivate
-leaves-is Write h = absurd (false≢true h)
-leaves-is Copy h = absurd (false≢true h)
-leaves-is Create h = absurd (false≢true h)
-leaves-is Destroy h = absurd (false≢true h)
-leaves-is Activate h = absurd (false≢true h)
-leaves-is Deactivate h = refl
+-- a write or a copy that 22 refuses is in a green zone, so that 19 is a yes
+stored : (g c i : Bool) → not g || i ≡ false → ask 19 (g || c) (ask 22 (not g || i) 0) ≡ 22
+stored true c i h = rw h
+stored false c i h = absurd (true≢false h)
+
+-- whether 19 or 21 is put
+module _ (b : State) (op : Operation) (f : Family) (a : Actor) {s : Bool} (storing : s ≡ stores f) where
+  pub follows-enters : not s ≡ true → {r : Bool} → r ≡ enters f a → r ≡ follows b op f a
+  follows-enters h e = rw (← storing, not-true s h) e
+
+  module _ {d : Bool} (device : d ≡ byDevice a) where
+    pub follows-device : not s ≡ false → d ≡ true → false ≡ follows b op f a
+    follows-device h k = rw (← storing, not-false s h, ← device, k)
+
+    pub follows-zone : not s ≡ false → d ≡ false → {z : ℕ} → z ≡ zoneOf b op a → {g : Bool} → g ≡ green b z
+        → not g ≡ follows b op f a
+    follows-zone h k e {g} q = rw (← storing, not-false s h, ← device, k, ← e, ← q)
 
 -- question 18, of a pair
 module _ (config : Config) (b : State) (c o v : ℕ) {s : Bool} (e : s ≡ described config b c (readEntry o)) where
@@ -140,12 +158,16 @@ module _ (config : Config) (b : State) (op : Operation) where
       e ∙ below-same (op .count) (itemDescribed config b op f) (transfer config b op f) (same f)
   q18-items f External h e = absurd (false≢true h)
 
+  or-true : (t : Bool) → true ≡ t || true
+  or-true true = refl
+  or-true false = refl
+
   -- questions 19 and 21: at most one of them is put to an operation
   pub q19-device : (f : Family) (a : Actor) → byDevice a ≡ true → true ≡ q19 config b op f a
   unfolding q19
   q19-device f Driver h = absurd (false≢true h)
-  q19-device Write Device h = refl
-  q19-device Copy Device h = refl
+  q19-device Write Device h = or-true (green b (zoneOf b op Device))
+  q19-device Copy Device h = or-true (green b (zoneOf b op Device))
   q19-device Create Device h = refl
   q19-device Destroy Device h = refl
   q19-device Activate Device h = refl
@@ -172,17 +194,42 @@ module _ (config : Config) (b : State) (op : Operation) where
   q21-free Activate External h = refl
   q21-free Deactivate a h = refl
 
+  pub q22-free : (f : Family) (a : Actor) → stores f ≡ false → enters f a ≡ false → true ≡ q22 config b op f a
+  unfolding q22
+  q22-free Write a h k = absurd (true≢false h)
+  q22-free Copy a h k = absurd (true≢false h)
+  q22-free Create a h k = refl
+  q22-free Destroy a h k = refl
+  q22-free Activate Driver h k = or-true (not (green b (op .partition)))
+  q22-free Activate Device h k = absurd (true≢false k)
+  q22-free Activate External h k = or-true (not (green b (op .partition)))
+  q22-free Deactivate a h k = refl
+
   abbrev both : Family → Actor → Bool
   both f a = q19 config b op f a && q21 config b op f a
 
-  pub neither-put : (f : Family) (a : Actor) → follows f a ≡ false → true ≡ both f a
+  -- in a green zone 19 is a yes, and elsewhere the search's answer
+  in-green : (g c : Bool) → not g ≡ false → true ≡ ((g || c) && true)
+  in-green true c h = refl
+  in-green false c h = absurd (true≢false h)
+
+  elsewhere : (g c : Bool) → not g ≡ true → c ≡ ((g || c) && true)
+  elsewhere true c h = absurd (false≢true h)
+  elsewhere false true h = refl
+  elsewhere false false h = refl
+
+  by-device : (g : Bool) → true ≡ ((g || true) && true)
+  by-device true = refl
+  by-device false = refl
+
+  pub neither-put : (f : Family) (a : Actor) → follows b op f a ≡ false → true ≡ both f a
   unfolding q19 q21
-  neither-put Write Driver h = absurd (true≢false h)
-  neither-put Write Device h = refl
-  neither-put Write External h = absurd (true≢false h)
-  neither-put Copy Driver h = absurd (true≢false h)
-  neither-put Copy Device h = refl
-  neither-put Copy External h = absurd (true≢false h)
+  neither-put Write Driver h = in-green (green b (zoneOf b op Driver)) _ h
+  neither-put Write Device h = by-device (green b (zoneOf b op Device))
+  neither-put Write External h = in-green (green b (zoneOf b op External)) _ h
+  neither-put Copy Driver h = in-green (green b (zoneOf b op Driver)) _ h
+  neither-put Copy Device h = by-device (green b (zoneOf b op Device))
+  neither-put Copy External h = in-green (green b (zoneOf b op External)) _ h
   neither-put Create a h = refl
   neither-put Destroy a h = refl
   neither-put Activate Driver h = refl
@@ -190,18 +237,14 @@ module _ (config : Config) (b : State) (op : Operation) where
   neither-put Activate External h = refl
   neither-put Deactivate a h = refl
 
-  and-true : (t : Bool) → t ≡ (t && true)
-  and-true true = refl
-  and-true false = refl
-
-  either-put : (f : Family) (a : Actor) → follows f a ≡ true → confined config (apply config op f a b) ≡ both f a
+  either-put : (f : Family) (a : Actor) → follows b op f a ≡ true → confined config (apply config op f a b) ≡ both f a
   unfolding q19 q21
-  either-put Write Driver h = and-true (confined config (apply config op Write Driver b))
+  either-put Write Driver h = elsewhere (green b (zoneOf b op Driver)) _ h
   either-put Write Device h = absurd (false≢true h)
-  either-put Write External h = and-true (confined config (apply config op Write External b))
-  either-put Copy Driver h = and-true (confined config (apply config op Copy Driver b))
+  either-put Write External h = elsewhere (green b (zoneOf b op External)) _ h
+  either-put Copy Driver h = elsewhere (green b (zoneOf b op Driver)) _ h
   either-put Copy Device h = absurd (false≢true h)
-  either-put Copy External h = and-true (confined config (apply config op Copy External b))
+  either-put Copy External h = elsewhere (green b (zoneOf b op External)) _ h
   either-put Create Driver h = absurd (false≢true h)
   either-put Create Device h = absurd (false≢true h)
   either-put Create External h = absurd (false≢true h)
@@ -215,23 +258,29 @@ module _ (config : Config) (b : State) (op : Operation) where
   either-put Deactivate Device h = absurd (false≢true h)
   either-put Deactivate External h = absurd (false≢true h)
 
-  -- question 20
-  pub q20-free : (f : Family) (a : Actor) → leaves f ≡ false → true ≡ q20 config b op f a
-  unfolding q20
-  q20-free Write a h = refl
-  q20-free Copy a h = refl
-  q20-free Create a h = refl
-  q20-free Destroy a h = refl
-  q20-free Activate a h = refl
-  q20-free Deactivate a h = absurd (true≢false h)
+  -- question 22: where it says no, those before it are not put
+  pub green-number : (f : Family) (a : Actor) → q22 config b op f a ≡ false
+      → ask 19 (q19 config b op f a) (ask 20 (q20 config b op f a) (ask 22 (q22 config b op f a)
+      (ask 21 (q21 config b op f a) 0))) ≡ 22
+  unfolding q19 q20 q21 q22
+  green-number Write Driver h = stored (green b (zoneOf b op Driver)) _ _ h
+  green-number Write Device h = absurd (true≢false h)
+  green-number Write External h = stored (green b (zoneOf b op External)) _ _ h
+  green-number Copy Driver h = stored (green b (zoneOf b op Driver)) _ _ h
+  green-number Copy Device h = absurd (true≢false h)
+  green-number Copy External h = stored (green b (zoneOf b op External)) _ _ h
+  green-number Create a h = absurd (true≢false h)
+  green-number Destroy a h = absurd (true≢false h)
+  green-number Activate a h = rw h
+  green-number Deactivate a h = absurd (true≢false h)
 
-  pub q20-table : (f : Family) (a : Actor) → leaves f ≡ true → (t : List ℕ) → Marks t (concerned config op a)
-      → {c : ℕ} → c ≡ itself op a → {r : Bool} → r ≡ unnamed config b (λ o. eqb (getD t o 0) 1) c
-      → r ≡ q20 config b op f a
-  unfolding q20 Marks
-  q20-table f a h t m {c} p q =
-      rw (leaves-is f h, ← p)
-      (q ∙ ap (λ (n : ℕ → Bool). unnamed config b n c) (λ i o. m o i))
+-- where 22 says yes, the rest is as if it were not asked
+pub green-passed : (config : Config) (b : State) (op : Operation) (f : Family) (a : Actor)
+    → q22 config b op f a ≡ true
+    → ask 19 (q19 config b op f a) (ask 20 (q20 config b op f a) (ask 22 (q22 config b op f a)
+    (ask 21 (q21 config b op f a) 0)))
+    ≡ ask 19 (q19 config b op f a) (ask 20 (q20 config b op f a) (ask 21 (q21 config b op f a) 0))
+green-passed config b op f a h = rw h
 
 pub both-yes : (x y : Bool) → x && y ≡ true → (x ≡ true) × (y ≡ true)
 both-yes true y h = (refl, h)
@@ -274,7 +323,7 @@ next-number config b op f a h = go (enters f a) refl
         rw no₁₉
 
 pub follows-next : (config : Config) (room : ℕ) (area : List ℕ) (op : Operation) (f : Family) (a : Actor)
-    → Ready config room area → Asked config op f a → follows f a ≡ true → {s : List ℕ}
+    → Ready config room area → Asked config op f a → follows (view room area) op f a ≡ true → {s : List ℕ}
     → s ≡ layout (applied config op (view room area)) → {r : Bool} → r ≡ confined config (view room s)
     → r ≡ (q19 config (view room area) op f a && q21 config (view room area) op f a)
 follows-next config room area op f a ready asked h {s} e p =

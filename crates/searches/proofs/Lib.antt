@@ -1,3 +1,4 @@
 pub mod Readying
 pub mod Marking
+pub mod Unnamed
 pub mod Asking

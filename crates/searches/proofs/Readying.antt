@@ -1,20 +1,20 @@
 -- What the questions before give: to a search, and to the effect on a scratch copy. Assumes nothing.
-use Prim.Native.Nat.{ℕ, _≤_}
+use Prim.Native.Nat.{ℕ, _≤_, _<_}
 use mathlib.Core.Path.{_≡_, refl, sym, ap, _∙_, subst}
 use mathlib.Core.List.{List}
-use mathlib.Core.Bool.{Bool, true, false≢true}
+use mathlib.Core.Bool.{Bool, true, false, not, _||_, Bool·beq, true≢false, false≢true}
 use native.Mathlib.Omega.{arith}
 use lib.ListN.{length, take, replicate}
 use lib.Seq.{length-take-le}
 use lib.Dec.{eqb}
-use borrow.Author.Tests.{eqb-true}
-use Rattle.model.specs.Config.{mostObjects, mostValues}
+use borrow.Author.Tests.{eqb-true, eq-eqb, ne-eqb, leb-true}
+use Rattle.model.specs.Config.{mostObjects, mostValues, kindOf}
 use Rattle.model.specs.ConfigFile.{load}
 use Rattle.model.specs.Number.{mostNumber}
-use Rattle.model.specs.State.{State, contentOf, roomFor, areaLength, view, layout, rightContent, wellFormed}
-use Rattle.model.specs.Operation.{familyOf, actorOf, mostItems, objectAt, readOperation}
-use Rattle.model.specs.Effect.{apply, answerBytes}
-use Rattle.model.specs.Questions.{q11, q13, isObject}
+use Rattle.model.specs.State.{State, objectIn, contentOf, roomFor, areaLength, view, layout, rightContent, wellFormed}
+use Rattle.model.specs.Operation.{familyOf, actorOf, mostItems, objectAt, secondAt, formAt, readOperation}
+use Rattle.model.specs.Effect.{apply, answerBytes, concerned}
+use Rattle.model.specs.Questions.{q11, q13, q17, isObject, itemExists, isKind, itemFits, zoneOf}
 use Rattle.model.specs.Gate.{applied, judged}
 use Rattle.model.specs.declared.Family.{Family}
 use Rattle.model.specs.declared.Family.the-variants.{Write, Copy, Create, Destroy, Activate, Deactivate}
@@ -22,7 +22,7 @@ use Rattle.model.specs.declared.Actor.{Actor}
 use Rattle.model.specs.declared.Config.{Config}
 use Rattle.model.specs.declared.Loaded.{Loaded}
 use Rattle.model.specs.declared.Operation.{Operation}
-use Rattle.model.proofs.Lists.{from1to-high}
+use Rattle.model.proofs.Lists.{and-r, below-at, from1to-high}
 use Rattle.model.proofs.Accepted.{Sound, load-sound}
 use Rattle.model.proofs.Facts.{objects-room, room-most, passed}
 use Rattle.model.proofs.Formed.{Formed, formed-of, items-exist}
@@ -30,12 +30,14 @@ use Rattle.model.proofs.FormedStores.{write-formed, copy-formed}
 use Rattle.model.proofs.FormedMoves.{activated-contents}
 use Rattle.model.proofs.OperationRange.{InRange, read-ranged}
 use Rattle.model.proofs.Reached.{layout-length}
+use Rattle.model.proofs.Zones.{concerned-zone}
 use Rattle.model.proofs.StateLaws.{Shape, view-layout, apply-shape}
 use Rattle.state.specs.Splice.{splice, part}
 use Rattle.state.proofs.Splicing.{splice-whole, part-whole}
 use Rattle.state.proofs.Places.{view-shape}
 use Rattle.effect.specs.Fit.{Fit}
 use Rattle.effect.proofs.Effects.{fit}
+use Rattle.green.specs.Rule.{Narrow}
 use Rattle.scene.proofs.Accepting.{values-ok, owners-ok, area-ok}
 use Rattle.searches.specs.Ready.{Accepted, Searchable, Ready, Complete, Asked}
 use Rattle.searches.specs.Asking.{follows, InTable}
@@ -98,6 +100,32 @@ room-of config a k = rw k (objects-room config (sound-of config a), room-most (c
 pub room-small : (room : ℕ) → room ≤ mostObjects → room ≤ mostNumber
 room-small room h = omega arith
 
+-- questions 11 and 13: what a write stores into kind 1 is a value
+stored-value : (config : Config) (op : Operation) (a : Actor) → q11 config op Write a ≡ true
+    → q13 config op Write ≡ true → (i : ℕ) → i < op .count → kindOf config (objectAt op i) ≡ 1
+    → secondAt op i ≤ config .counts .values
+unfolding q13
+stored-value config op a h m i l k =
+    let x : itemExists config op Write i ≡ true = items-exist config op Write a h i l in
+    let y : itemFits config op Write i ≡ true = below-at (op .count) (itemFits config op Write) m i l in
+    let z = number (isKind config 1 (objectAt op i)) (formAt op i) (eq-eqb (kindOf config (objectAt op i)) 1 k)
+    (and-r (not (isKind config 4 (objectAt op i))) _ y) in
+    leb-true (secondAt op i) (config .counts .values)
+    (value (eqb (formAt op i) 1) _ (ne-eqb (formAt op i) 1 (λ e. absurd (omega arith)))
+    (and-r (isObject config (objectAt op i)) _ x))
+  where
+    number : (s : Bool) (form : ℕ) → s ≡ true → Bool·beq s (eqb form 0) ≡ true → form ≡ 0
+    number true form e h = eqb-true form 0 (same (eqb form 0) h)
+      where
+        same : (t : Bool) → Bool·beq true t ≡ true → t ≡ true
+        same true h = refl
+        same false h = absurd (false≢true h)
+    number false form e h = absurd (false≢true e)
+
+    value : (s t : Bool) → s ≡ false → s || t ≡ true → t ≡ true
+    value true t e h = absurd (true≢false e)
+    value false t e h = h
+
 -- the state that would follow
 module _ (config : Config) (room : ℕ) (area : List ℕ) (op : Operation) (f : Family) (a : Actor)
     (ready : Ready config room area) (asked : Asked config op f a) where
@@ -128,6 +156,22 @@ module _ (config : Config) (room : ℕ) (area : List ℕ) (op : Operation) (f : 
       let x : isObject config (objectAt op i) ≡ true = items-exist config op Deactivate a h i l in
       omega (arith, from1to-high (objectAt op i) (config .counts .objects) x, few-objects)
 
+  -- question 22: the value numbers that a write stores into kind 1 fit a byte
+  pub narrow-of : Narrow (config .objects .kind) op f
+  unfolding Narrow q13
+  narrow-of e i l k =
+      let h : q11 config op Write a ≡ true = subst (λ (x : Family). q11 config op x a ≡ true) e (asked .p11) in
+      let m : q13 config op Write ≡ true = subst (λ (x : Family). q13 config op x ≡ true) e (asked .p13) in
+      let v : config .counts .values ≤ mostValues = sound .few .values in
+      omega (arith, stored-value config op a h m i l k)
+
+  -- question 20: what leaves is in one zone
+  pub zone-of : f ≡ Deactivate → q17 (view room area) op f a ≡ true → (n : ℕ) → concerned config op a n ≡ true
+      → objectIn (view room area) n ≡ zoneOf (view room area) op a
+  zone-of e h =
+      concerned-zone room config (ready .fits) (view room area) (ready .formed) op a
+      (subst (λ (x : Family). q17 (view room area) op x a ≡ true) e h)
+
   -- contents are right in the state that would follow
   abbrev Right : State → Type 0
   Right b = (n : ℕ) → 1 ≤ n → n ≤ room → rightContent config n (contentOf b n) ≡ true
@@ -138,8 +182,8 @@ module _ (config : Config) (room : ℕ) (area : List ℕ) (op : Operation) (f : 
   formed : Formed room config before
   formed = formed-of room config before (ready .formed)
 
-  followed-right : (g : Family) (c : Actor) → follows g c ≡ true → q11 config op g c ≡ true → q13 config op g ≡ true
-      → Right (apply config op g c before)
+  followed-right : (g : Family) (c : Actor) → follows before op g c ≡ true → q11 config op g c ≡ true
+      → q13 config op g ≡ true → Right (apply config op g c before)
   unfolding apply
   followed-right Write c h p q = write-formed room config (ready .fits) op before formed c p q .contents
   followed-right Copy c h p q = copy-formed room config (ready .fits) op before formed c p q .contents
@@ -167,7 +211,7 @@ module _ (config : Config) (room : ℕ) (area : List ℕ) (op : Operation) (f : 
     next-long : length s ≡ areaLength room
     next-long = ap length laid ∙ layout-length room (apply config op f a (view room area)) shape
 
-    pub next-searchable : follows f a ≡ true → Searchable config room s
+    pub next-searchable : follows before op f a ≡ true → Searchable config room s
     next-searchable h =
         searchable config room (ready .fits) sound s next-long
         (subst Right (sym next-view) (followed-right f a h (asked .p11) (asked .p13)))

@@ -1,4 +1,4 @@
--- Whom questions 18 to 21 concern, and their parts by the numbers that a loop looks at.
+-- Whom questions 18 to 22 concern, and their parts by the numbers that a loop looks at.
 use Prim.Native.Nat.{ℕ, _≤_, _<_}
 use mathlib.Core.Path.{_≡_}
 use mathlib.Core.Bool.{Bool, true, false, not, cond, _&&_, _||_}
@@ -6,16 +6,16 @@ use mathlib.Core.List.{List}
 use lib.ListN.{getD}
 use lib.Dec.{eqb}
 use Rattle.model.specs.Config.{mostObjects}
-use Rattle.model.specs.State.{State, held}
+use Rattle.model.specs.State.{State, green, held}
 use Rattle.model.specs.Operation.{objectAt, secondAt}
 use Rattle.model.specs.Closure.{described}
-use Rattle.model.specs.Questions.{readEntry, writeEntry}
+use Rattle.model.specs.Questions.{readEntry, writeEntry, zoneOf}
 use Rattle.model.specs.declared.Family.{Family}
 use Rattle.model.specs.declared.Family.the-variants.{Write, Copy, Create, Destroy, Activate, Deactivate}
 use Rattle.model.specs.declared.Actor.{Actor}
-use Rattle.model.specs.declared.Actor.the-variants.{Driver, Device, External}
 use Rattle.model.specs.declared.Config.{Config}
 use Rattle.model.specs.declared.Operation.{Operation}
+use Rattle.green.specs.Rule.{byDevice}
 use Rattle.scene.specs.Scene.{Scene, sceneOf}
 
 -- a write or a copy
@@ -35,11 +35,6 @@ leaves Destroy = false
 leaves Activate = false
 leaves Deactivate = true
 
-abbrev pub byDevice : Actor → Bool
-byDevice Driver = false
-byDevice Device = true
-byDevice External = false
-
 abbrev pub activates : Family → Bool
 activates Write = false
 activates Copy = false
@@ -52,9 +47,9 @@ activates Deactivate = false
 abbrev pub enters : Family → Actor → Bool
 enters f a = activates f && byDevice a
 
--- questions 19 and 21: whether one of them is put
-abbrev pub follows : Family → Actor → Bool
-follows f a = cond (stores f) (not (byDevice a)) (enters f a)
+-- questions 19 and 21: whether one of them is put; 19 is not, in a green zone
+abbrev pub follows : State → Operation → Family → Actor → Bool
+follows b op f a = cond (stores f) (not (byDevice a) && not (green b (zoneOf b op a))) (enters f a)
 
 -- question 18: the scene m with the kinds and the state by which transfers are looked up; write entries do not count
 abbrev pub todayOf : Scene → List ℕ → State → Scene

@@ -1,6 +1,7 @@
-// Question 20: no other device has an entry in the closure for an object that a deactivation concerns.
+// Question 20: no other device has an entry in the closure for an object that a deactivation concerns, and in a green
+// zone no descriptor that stays names one.
 ghost use mathlib.Core.Path.{_≡_};
-ghost use mathlib.Core.Bool.{cond};
+ghost use mathlib.Core.Bool.{true, cond};
 ghost use Prim.Native.Nat.{_≤_};
 ghost use lib.ListN.{getD};
 ghost use lib.Dec.{eqb};
@@ -8,7 +9,7 @@ ghost use Rattle.model.specs.Config.{mostObjects};
 ghost use Rattle.model.specs.State.{view};
 ghost use Rattle.model.specs.Effect.{concerned};
 ghost use Rattle.model.specs.Closure.{unnamed};
-ghost use Rattle.model.specs.Questions.{q20, itself};
+ghost use Rattle.model.specs.Questions.{q17, q20, itself};
 ghost use Rattle.model.specs.declared.Actor.the-variants.{External};
 ghost use Rattle.effect.specs.Moves.{ownedBy, listed};
 ghost use Rattle.searches.specs.Ready.{Searchable, Ready, Asked};
@@ -16,6 +17,8 @@ ghost use Rattle.searches.specs.Asking.{leaves, Marks, InTable};
 use crate::next::is_nothing;
 use closure::answer::naming;
 use effect::owners::is_owned;
+use green::rule::zone_of;
+use green::staying::zone_lets_go;
 use model::Actor;
 use model::Config;
 use model::Family;
@@ -134,7 +137,8 @@ fn is_unnamed(
     is_nothing(found)
 }
 
-// 20: no other device has an entry for what is deactivated.
+// 20: no other device has an entry for what is deactivated, nor has a descriptor that stays in its green zone. The
+// second is asked first: it needs no search.
 pub fn stays_unnamed(
     config: Config,
     area: &[u8],
@@ -145,12 +149,25 @@ pub fn stays_unnamed(
 ) -> bool
     requires { ⌜ Ready config room (now area) ⌝ }
     requires { ⌜ Asked config op f a ⌝ }
+    requires { ⌜ q17 (view room (now area)) op f a ≡ true ⌝ }
     ensures { λ r. ⌜ r ≡ q20 config (view room (now (area .entry))) op f a ⌝ }
 {
     if !is_leaving(f) {
         return true;
     }
     let table = mark_concerned(config, op, a);
+    if !zone_lets_go(
+        config.counts.objects,
+        &config.objects.kind,
+        &config.values.count,
+        &config.values.entries,
+        area,
+        room,
+        &table,
+        zone_of(area, room, op, a),
+    ) {
+        return false;
+    }
     let but = left_out(op, a);
     is_unnamed(config, area, room, &table, but)
 }

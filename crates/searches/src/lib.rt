@@ -2,3 +2,4 @@
 pub mod leaving;
 pub mod next;
 pub mod transfers;
+pub mod zones;

@@ -13,12 +13,13 @@ ghost use Rattle.effect.specs.Fit.{Fit};
 ghost use Rattle.closure.specs.Search.{isNothing};
 ghost use Rattle.searches.specs.Ready.{Searchable, Ready, Asked};
 ghost use Rattle.searches.specs.Asking.{activates, enters, follows};
-use crate::transfers::is_by_device;
 use crate::transfers::is_storing;
 use closure::answer::crossing;
 use closure::search::Finding;
 use effect::ANSWER_BYTES;
 use effect::carry_out;
+use green::rule::is_by_device;
+use green::rule::zone_of;
 use model::Actor;
 use model::Config;
 use model::Family;
@@ -27,6 +28,7 @@ use model::SMALL_ROOM;
 use state::AREA_BYTES;
 use state::SMALL_AREA_BYTES;
 use state::bytes::copy;
+use state::look::is_green;
 
 // A search found nothing.
 pub(crate) fn is_nothing(s: Finding) -> bool
@@ -135,14 +137,18 @@ pub fn is_entering(f: Family, a: Actor) -> bool
     is_activating(f) & is_by_device(a)
 }
 
-// 19 is put to writes and copies, unless a device acts, and 21 where a device is brought in.
-fn is_followed(f: Family, a: Actor) -> bool
-    ensures { λ r. ⌜ r ≡ follows f a ⌝ }
+// 19 is put to writes and copies outside green zones, unless a device acts, and 21 where a device is brought in.
+fn is_followed(area: &[u8], room: usize, op: Operation, f: Family, a: Actor) -> bool
+    requires { ⌜ length (now area) ≡ areaLength room ⌝ }
+    ensures { λ r. ⌜ r ≡ follows (view room (now (area .entry))) op f a ⌝ }
 {
-    if is_storing(f) {
-        return !is_by_device(a);
+    if !is_storing(f) {
+        return is_entering(f, a);
     }
-    is_entering(f, a)
+    if is_by_device(a) {
+        return false;
+    }
+    !is_green(area, room, zone_of(area, room, op, a))
 }
 
 // 19 and 21: no entry crosses in the state that would follow, of whichever device. One function asks both, since at
@@ -161,7 +167,7 @@ pub fn follows_confined(
         ⌜ r ≡ (q19 config (view room (now (area .entry))) op f a
         && q21 config (view room (now (area .entry))) op f a) ⌝ }
 {
-    if !is_followed(f, a) {
+    if !is_followed(area, room, op, f, a) {
         return true;
     }
     if room == SMALL_ROOM as usize {

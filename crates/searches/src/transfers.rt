@@ -9,9 +9,10 @@ ghost use Rattle.scene.specs.Scene.{Scene};
 ghost use Rattle.described.specs.Offers.{Offered};
 ghost use Rattle.questions.specs.Items.{allBelow};
 ghost use Rattle.searches.specs.Ready.{Ready, Complete};
-ghost use Rattle.searches.specs.Asking.{stores, byDevice, todayOf, pairDescribed, transferOf, itemDescribed};
+ghost use Rattle.searches.specs.Asking.{stores, todayOf, pairDescribed, transferOf, itemDescribed};
 use described::offers::is_described;
 use described::today::offered;
+use green::rule::is_by_device;
 use model::Actor;
 use model::Config;
 use model::Family;
@@ -31,17 +32,6 @@ pub fn is_storing(f: Family) -> bool
         Family::Destroy => false,
         Family::Activate => false,
         Family::Deactivate => false,
-    }
-}
-
-// A device acts.
-pub(crate) fn is_by_device(a: Actor) -> bool
-    ensures { λ r. ⌜ r ≡ byDevice a ⌝ }
-{
-    match a {
-        Actor::Driver => false,
-        Actor::Device => true,
-        Actor::External => false,
     }
 }
 

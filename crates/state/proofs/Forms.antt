@@ -19,6 +19,8 @@ use Rattle.model.specs.State.{
   devicePlace,
   State,
   statusOf,
+  greenStatus,
+  stands,
   driverIn,
   deviceIn,
   existing,
@@ -85,27 +87,28 @@ module _ (room : ℕ) (s : List ℕ) where
   unfolding statusesRight
   status-first h = rw (status-byte room s 0 (omega arith), ne-eqb (getD s 0 0) 0 h)
 
-  pub status-rest : (t : ℕ) → getD s 0 0 ≡ 0 → Highest s 0 partitionCount t → leb t 2 ≡ statusesRight (view room s)
+  pub status-rest : (t : ℕ) → getD s 0 0 ≡ 0 → Highest s 0 partitionCount t
+      → leb t greenStatus ≡ statusesRight (view room s)
   unfolding statusesRight AtMost
   status-rest t z h =
       let f : eqb (statusOf (view room s) 0) 0 ≡ true =
       eq-eqb (statusOf (view room s) 0) 0 (status-byte room s 0 (omega arith) ∙ z) in
-      rw f (same-test (leb t 2) (all (λ v. leb v 2) (view room s .status)) low high)
+      rw f (same-test (leb t greenStatus) (all (λ v. leb v greenStatus) (view room s .status)) low high)
     where
-      low : leb t 2 ≡ true → all (λ v. leb v 2) (view room s .status) ≡ true
+      low : leb t greenStatus ≡ true → all (λ v. leb v greenStatus) (view room s .status) ≡ true
       low e =
-          all-on (λ v. leb v 2) (view room s .status)
+          all-on (λ v. leb v greenStatus) (view room s .status)
           (λ j q.
           let w : j < partitionCount = omega (arith, view-shape room s .statuses) in
-          let x : getD s j 0 ≤ 2 = omega (arith, leb-true t 2 e, h .above j (omega arith) w) in
-          rw (status-byte room s j w) (le-leb (getD s j 0) 2 x))
+          let x : getD s j 0 ≤ greenStatus = omega (arith, leb-true t greenStatus e, h .above j (omega arith) w) in
+          rw (status-byte room s j w) (le-leb (getD s j 0) greenStatus x))
 
-      high : all (λ v. leb v 2) (view room s .status) ≡ true → leb t 2 ≡ true
+      high : all (λ v. leb v greenStatus) (view room s .status) ≡ true → leb t greenStatus ≡ true
       high e =
-          le-leb t 2 (h .least 2 (λ j l w.
-          let x : leb (statusOf (view room s) j) 2 ≡ true =
-          all-at (λ v. leb v 2) (view room s .status) e j (omega (arith, view-shape room s .statuses)) in
-          leb-true (getD s j 0) 2 (rw (status-byte room s j w) at x)))
+          le-leb t greenStatus (h .least greenStatus (λ j l w.
+          let x : leb (statusOf (view room s) j) greenStatus ≡ true =
+          all-at (λ v. leb v greenStatus) (view room s .status) e j (omega (arith, view-shape room s .statuses)) in
+          leb-true (getD s j 0) greenStatus (rw (status-byte room s j w) at x)))
 
 -- partition bytes, by a table of what they name
 module _ (b : State) (s : List ℕ) (before : ℕ) where
@@ -120,7 +123,7 @@ module _ (b : State) (s : List ℕ) (before : ℕ) where
   unfolding assignedTo
   assigned-none = refl
 
-  module _ (t : List ℕ) (named : Named b t) (i : ℕ) (r : Bool) (e : r ≡ eqb (getD t (byte (i + 1)) 0) 1) where
+  module _ (t : List ℕ) (named : Named b t) (i : ℕ) (r : Bool) (e : r ≡ stands (getD t (byte (i + 1)) 0)) where
     told : r ≡ assigned b (byte (i + 1))
     unfolding Named
     told = e ∙ named (byte (i + 1))

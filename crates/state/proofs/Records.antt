@@ -21,6 +21,7 @@ use Rattle.model.specs.State.{
   contentPlace,
   State,
   statusOf,
+  stands,
   driverIn,
   deviceIn,
   objectIn,
@@ -179,7 +180,7 @@ module _ (room : ℕ) (s d : List ℕ) (fits : length s ≡ areaLength room)
   named-made zero = rw (getD-set-same d 0 1 0 (omega (arith, length-built)))
   named-made (suc p) =
       rw (getD-set-other d 0 (suc p) 1 0 (λ z. omega arith), ne-eqb (suc p) 0 (λ z. omega arith))
-      (ap (λ (v : ℕ). eqb v 1) (go (decLe (suc (suc p)) partitionCount)))
+      (ap stands (go (decLe (suc (suc p)) partitionCount)))
     where
       go : Dec (suc p < partitionCount) → getD d (suc p) 0 ≡ statusOf (view room s) (suc p)
       go (yes l) = inside (suc p) l ∙ status-in room s (suc p) l
@@ -195,7 +196,7 @@ module _ (housed : Bool) (named : List ℕ) (p home : ℕ) where
   unfolding atHome
   home-known e h = rw (eq-eqb p home e, h)
 
-  pub home-told : (r : Bool) → p ≡ home → housed ≡ false → r ≡ eqb (getD named p 0) 1 → r ≡ atHome housed named p home
+  pub home-told : (r : Bool) → p ≡ home → housed ≡ false → r ≡ stands (getD named p 0) → r ≡ atHome housed named p home
   unfolding atHome
   home-told r e h t = rw (eq-eqb p home e, h) t
 
@@ -212,7 +213,7 @@ module _ (room : ℕ) (s named drivers devices : List ℕ) (housed : Bool) (m : 
   there = sym (object-in room s n (λ e. omega arith) high)
 
   -- what the table says of it
-  told : eqb (getD named p 0) 1 ≡ assigned (view room s) p
+  told : stands (getD named p 0) ≡ assigned (view room s) p
   unfolding Named
   told = m .statuses p
 
@@ -237,7 +238,7 @@ module _ (room : ℕ) (s named drivers devices : List ℕ) (housed : Bool) (m : 
   settled d h = go (bool-cases (eqb p d)) (bool-cases housed)
     where
       go : (eqb p d ≡ true) ⊎ (eqb p d ≡ false) → (housed ≡ true) ⊎ (housed ≡ false)
-          → (eqb p d && (housed || eqb (getD named p 0) 1)) ≡ (assigned (view room s) p && eqb p d)
+          → (eqb p d && (housed || stands (getD named p 0))) ≡ (assigned (view room s) p && eqb p d)
       go (inr e) x = rw e (and-false (assigned (view room s) p))
       go (inl e) (inl x) =
           let a : assigned (view room s) p ≡ true = rw (eqb-true p d e) (h x) in
@@ -258,7 +259,7 @@ module _ (room : ℕ) (s named drivers devices : List ℕ) (housed : Bool) (m : 
       let g : getD devices o 0 ≡ deviceIn (view room s) o = device-home room s devices (m .ofDevices) o in
       e ∙ (settled (getD devices o 0) (λ h. rw g (m .good h o .1)) ∙ of-device o a f)
 
-  pub place-free : (r : Bool) → (k ≡ 1 → ⊥) → (k ≡ 2 → ⊥) → r ≡ eqb (getD named p 0) 1
+  pub place-free : (r : Bool) → (k ≡ 1 → ⊥) → (k ≡ 2 → ⊥) → r ≡ stands (getD named p 0)
       → r ≡ placeRight placing (view room s) n
   unfolding placeRight objectsLent
   place-free r x y e =

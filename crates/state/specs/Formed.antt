@@ -17,6 +17,8 @@ use Rattle.model.specs.State.{
   objectIn,
   contentOf,
   valueBytes,
+  greenStatus,
+  stands,
   assigned,
   rightAssignment,
   sameBytes,
@@ -26,7 +28,7 @@ use Rattle.model.specs.State.{
 use Rattle.model.specs.declared.Config.{Config}
 
 unfoldable pub statusesRight : State → Bool
-statusesRight b = eqb (statusOf b 0) 0 && all (λ s. leb s 2) (b .status)
+statusesRight b = eqb (statusOf b 0) 0 && all (λ s. leb s greenStatus) (b .status)
 
 -- the first k drivers or devices, the byte of number n at place before + n of the area s
 unfoldable pub assignmentsRight : State → List ℕ → ℕ → ℕ → ℕ → Bool
@@ -64,14 +66,14 @@ pub record Numbered (s : List ℕ) (before k : ℕ) (t : List ℕ) : Type 0 wher
   pub first : getD t 0 0 ≡ 0
   pub behind : (n : ℕ) → k < n → getD t n 0 ≡ 0
 
--- the table t has 1, existing, for 0 and for every existing partition, and for no other number
+-- the table t has a status that stands for 0 and for every existing partition, and for no other number
 unfoldable pub Named : State → List ℕ → Type 0
-Named b t = (p : ℕ) → eqb (getD t p 0) 1 ≡ assigned b p
+Named b t = (p : ℕ) → stands (getD t p 0) ≡ assigned b p
 
 -- the partition p of an owned object is that of its owner, and none or existing by the table t, unless it is known that
 -- the owner's is
 unfoldable pub atHome : Bool → List ℕ → ℕ → ℕ → Bool
-atHome housed t p home = eqb p home && (housed || eqb (getD t p 0) 1)
+atHome housed t p home = eqb p home && (housed || stands (getD t p 0))
 
 -- what a walk knows of the head: the statuses by what a partition byte names, the partitions of drivers and of devices,
 -- and, if the head was found good, that these are none or exist

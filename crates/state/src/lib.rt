@@ -38,11 +38,14 @@ pub const SMALL_AREA_BYTES: usize = RECORDS_FROM + RECORD_BYTES * (SMALL_ROOM as
 
 pub const AREA_BYTES: usize = RECORDS_FROM + RECORD_BYTES * (MOST_OBJECTS as usize);
 
-// The status of a partition: never used, existing, destroyed; and the largest.
+// The status of a partition: never used, existing, destroyed, existing and green; and the largest. Whether one counts
+// as existing is said by `look::is_standing` alone.
 pub const UNUSED: u8 = 0;
 
 pub const EXISTING: u8 = 1;
 
 pub const DESTROYED: u8 = 2;
 
-pub(crate) const MOST_STATUS: u8 = DESTROYED;
+pub const GREEN: u8 = 3;
+
+pub(crate) const MOST_STATUS: u8 = GREEN;

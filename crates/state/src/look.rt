@@ -4,11 +4,14 @@ ghost use Prim.Native.Nat.{_≤_};
 ghost use lib.ListN.{length};
 ghost use lib.Dec.{eqb};
 ghost use Rattle.model.specs.Number.{mostNumber};
-ghost use Rattle.model.specs.State.{statusOf, driverIn, deviceIn, objectIn, contentOf, held, areaLength, view};
+ghost use Rattle.model.specs.State.{statusOf, stands, existing, green, driverIn, deviceIn, objectIn, contentOf, held};
+ghost use Rattle.model.specs.State.{areaLength, view};
 use crate::DEVICE_BYTES;
 use crate::DEVICES_FROM;
 use crate::DRIVER_BYTES;
 use crate::DRIVERS_FROM;
+use crate::EXISTING;
+use crate::GREEN;
 use crate::PARTITIONS;
 use crate::RECORD_BYTES;
 use crate::RECORDS_FROM;
@@ -30,6 +33,29 @@ pub fn status(area: &[u8], room: usize, p: usize) -> u8
     ensures { λ r. ⌜ r ≡ statusOf (view room (now (area .entry))) p ⌝ }
 {
     if p < PARTITIONS { area[p] } else { 0 }
+}
+
+// A status counts as existing.
+pub fn is_standing(s: u8) -> bool
+    ensures { λ r. ⌜ r ≡ stands s ⌝ }
+{
+    (s == EXISTING) | (s == GREEN)
+}
+
+// Partition p exists, green or not.
+pub fn is_existing(area: &[u8], room: usize, p: usize) -> bool
+    requires { ⌜ length (now area) ≡ areaLength room ⌝ }
+    ensures { λ r. ⌜ r ≡ existing (view room (now (area .entry))) p ⌝ }
+{
+    is_standing(status(area, room, p))
+}
+
+// Partition p is a green zone.
+pub fn is_green(area: &[u8], room: usize, p: usize) -> bool
+    requires { ⌜ length (now area) ≡ areaLength room ⌝ }
+    ensures { λ r. ⌜ r ≡ green (view room (now (area .entry))) p ⌝ }
+{
+    status(area, room, p) == GREEN
 }
 
 // The partition of driver d.

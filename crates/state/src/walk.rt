@@ -4,7 +4,7 @@ ghost use mathlib.Core.List.{[]};
 ghost use Prim.Native.Nat.{_+_, _≤_, _<_};
 ghost use lib.ListN.{length, getD};
 ghost use lib.Dec.{eqb};
-ghost use Rattle.model.specs.State.{areaLength, view, rightObject, firstBad};
+ghost use Rattle.model.specs.State.{areaLength, view, stands, rightObject, firstBad};
 ghost use Rattle.state.specs.Change.{objectsLent, lent};
 ghost use Rattle.state.specs.Formed.{isValue, isValueTo, contentRight, atHome, placeRight};
 ghost use Rattle.state.specs.Formed.{byteValues, Blank, Numbered, Tables};
@@ -20,6 +20,7 @@ use crate::bytes::copy;
 use crate::bytes::load;
 use crate::bytes::wide_word;
 use crate::bytes::word;
+use crate::look::is_standing;
 use model::CONTENT_BYTES;
 use model::Counts;
 use model::DEVICE_CLASS;
@@ -102,9 +103,9 @@ fn is_filled<'a>(
 
 // A partition byte is 0 or names an existing partition.
 pub(crate) fn is_assigned<'a>(named: &'a [u8; BYTE_VALUES], p: u8) -> bool
-    ensures { λ r. ⌜ r ≡ eqb (getD (now (named .entry)) p 0) 1 ⌝ }
+    ensures { λ r. ⌜ r ≡ stands (getD (now (named .entry)) p 0) ⌝ }
 {
-    named[p as usize] == EXISTING
+    is_standing(named[p as usize])
 }
 
 // An owned object's partition: its owner's, and none or one that exists. Where the head was found good, an owner's is.

@@ -10,14 +10,17 @@ use Rattle.operation.proofs.codes.arguments.Tie as tie
 read-counted-requires : tie.Need-read-counted-requires
 read-counted-requires c κs = search needs
 
+read-partition-requires : tie.Need-read-partition-requires
+read-partition-requires c κs = search needs
+
 read-counted-requires-2 : tie.Need-read-counted-requires-2
 read-counted-requires-2 c κs = search needs
 
 read-counted-requires-3 : tie.Need-read-counted-requires-3
 read-counted-requires-3 c κs = search needs
 
-read-partition-requires : tie.Need-read-partition-requires
-read-partition-requires c κs = search needs
+read-partition-requires-2 : tie.Need-read-partition-requires-2
+read-partition-requires-2 c κs = search needs
 
 read-activation-requires : tie.Need-read-activation-requires
 read-activation-requires c κs = search needs
@@ -32,27 +35,32 @@ returns : tie.Need-returns
 returns c = Parsing.list-arm _ _ _ (c .before .match .keys1) (c .read-counted .ensures)
 
 returns-2 : tie.Need-returns-2
-returns-2 c = Parsing.write-arm _ _ _ (omega arith) (omega arith) (c .read-counted2 .ensures)
+returns-2 c = Parsing.green-arm _ _ _ (c .before .match .keys2) (c .read-partition .ensures)
 
 returns-3 : tie.Need-returns-3
-returns-3 c = Parsing.copy-arm _ _ _ (omega arith) (omega arith) (c .read-counted3 .ensures)
+returns-3 c = Parsing.write-arm _ _ _ (omega arith) (omega arith) (c .read-counted2 .ensures)
 
 returns-4 : tie.Need-returns-4
-returns-4 c = Parsing.partitioning-arm _ _ _ (omega arith) (omega arith) (c .read-partition .ensures)
+returns-4 c = Parsing.copy-arm _ _ _ (omega arith) (omega arith) (c .read-counted3 .ensures)
 
 returns-5 : tie.Need-returns-5
-returns-5 c = Parsing.activate-arm _ _ _ (omega arith) (omega arith) (c .read-activation .ensures)
+returns-5 c = Parsing.partitioning-arm _ _ _ (omega arith) (omega arith) (c .read-partition2 .ensures)
 
 returns-6 : tie.Need-returns-6
-returns-6 c =
-    let code = c .before .before .before .before .before .before .before .before .before .args .code in
-    let rest = c .before .before .before .before .before .before .before .match .rest in
-    let h : code ≡ 9 → ⊥ = λ e. rest .1 (inl e) in
-    Parsing.deactivate-arm _ _ _ (omega arith) (omega arith) (c .read-deactivation .ensures)
+returns-6 c = Parsing.activate-arm _ _ _ (omega arith) (omega arith) (c .read-activation .ensures)
 
 returns-7 : tie.Need-returns-7
 returns-7 c =
-    let h : c .before .before .before .before .args .code ≡ 12 → ⊥ = λ e. c .before .before .match .rest .1 (inr e) in
+    let code = c .before .before .before .before .before .before .before .before .before .args .code in
+    let rest = c .before .before .before .before .before .before .before .match .rest in
+    let h : code ≡ 9 → ⊥ = λ e. rest .0 .1 (inl e) in
+    Parsing.deactivate-arm _ _ _ (omega arith) (omega arith) (c .read-deactivation .ensures)
+
+returns-8 : tie.Need-returns-8
+returns-8 c =
+    let rest = c .before .before .match .rest in
+    let h : c .before .before .before .before .args .code ≡ 12 → ⊥ = λ e. rest .0 .1 (inr e) in
+    let k : c .before .before .before .before .args .code ≡ 13 → ⊥ = λ e. rest .1 e in
     ⊎-elim (λ w. Parsing.zero-arm _ _ _ (w .taken) (c .stop .ensures))
     (λ w. Parsing.other-arm _ _ _ (omega (arith, w .5 .left)) (c .stop .ensures)) (c .before .if1 .came)
 
@@ -61,9 +69,10 @@ arguments-spec =
     tie.close
     (tie.spec
     read-counted-requires
+    read-partition-requires
     read-counted-requires-2
     read-counted-requires-3
-    read-partition-requires
+    read-partition-requires-2
     read-activation-requires
     read-deactivation-requires
     stop-requires
@@ -73,4 +82,5 @@ arguments-spec =
     returns-4
     returns-5
     returns-6
-    returns-7)
+    returns-7
+    returns-8)

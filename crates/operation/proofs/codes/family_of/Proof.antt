@@ -1,12 +1,13 @@
 -- `operation::codes::family_of` meets its contract: each arm of the match is a law of its codes. Assumes nothing.
 use mathlib.Core.Path.{_≡_}
+use mathlib.Core.Logic.{inl, inr}
 use native.Mathlib.Omega.{arith}
 use Rattle.operation.proofs.Parsing
 use Rattle.operation.proofs.codes.family_of.Statement.{statement}
 use Rattle.operation.proofs.codes.family_of.Tie as tie
 
 returns : tie.Need-returns
-returns c = rw (c .match .keys1)
+returns c = Parsing.create-family _ (c .match .keys1)
 
 returns-2 : tie.Need-returns-2
 returns-2 c = rw (c .match .keys2)
@@ -21,12 +22,14 @@ returns-5 : tie.Need-returns-5
 returns-5 c =
     let a = c .before .before .before .before .args in
     let m = c .before .before .before .match .rest in
-    let h : a .code ≡ 5 → ⊥ = λ e. m .0 .1 e in
+    let h : a .code ≡ 5 → ⊥ = λ e. m .0 .1 (inl e) in
     let k : a .code ≡ 6 → ⊥ = λ e. m .1 e in
     Parsing.activate-family (a .code) (omega arith) (omega arith)
 
 returns-6 : tie.Need-returns-6
-returns-6 c = Parsing.deactivate-family (c .before .before .before .before .args .code) (omega arith)
+returns-6 c =
+    Parsing.deactivate-family (c .before .before .before .before .args .code) (omega arith)
+    (λ e. c .before .before .before .match .rest .0 .1 (inr e))
 
 pub family-of-spec : {M : Type 1} → statement M
 family-of-spec = tie.close (tie.spec returns returns-2 returns-3 returns-4 returns-5 returns-6)

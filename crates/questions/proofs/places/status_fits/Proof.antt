@@ -19,14 +19,14 @@ status-requires c κs = search needs
 enum-told-4 : tie.Need-enum-told-4
 enum-told-4 c = search needs
 
-status-requires-2 : tie.Need-status-requires-2
-status-requires-2 c κs = search needs
+is-existing-requires : tie.Need-is-existing-requires
+is-existing-requires c κs = search needs
 
 enum-told-5 : tie.Need-enum-told-5
 enum-told-5 c = search needs
 
-status-requires-3 : tie.Need-status-requires-3
-status-requires-3 c κs = search needs
+is-existing-requires-2 : tie.Need-is-existing-requires-2
+is-existing-requires-2 c κs = search needs
 
 enum-told-6 : tie.Need-enum-told-6
 enum-told-6 c = search needs
@@ -40,8 +40,8 @@ enum-told-8 c = search needs
 enum-told-9 : tie.Need-enum-told-9
 enum-told-9 c = search needs
 
-status-requires-4 : tie.Need-status-requires-4
-status-requires-4 c κs = search needs
+is-existing-requires-3 : tie.Need-is-existing-requires-3
+is-existing-requires-3 c κs = search needs
 
 returns : tie.Need-returns
 unfolding q14
@@ -57,11 +57,11 @@ returns-3 c = rw (c .before .enum-told3 .given .1, c .status .ensures)
 
 returns-4 : tie.Need-returns-4
 unfolding q14
-returns-4 c = rw (c .before .enum-told4 .given .1, c .status2 .ensures)
+returns-4 c = rw (c .before .enum-told4 .given .1, c .is-existing .ensures)
 
 returns-5 : tie.Need-returns-5
 unfolding q14
-returns-5 c = rw (c .before .enum-told5 .given .1, c .status3 .ensures)
+returns-5 c = rw (c .before .enum-told5 .given .1, c .is-existing2 .ensures)
 
 returns-6 : tie.Need-returns-6
 unfolding q14
@@ -77,7 +77,7 @@ returns-8 c =
     rw (
       c .before .before .before .enum-told6 .given .1,
       c .before .enum-told9 .given .1,
-      c .status4 .ensures,
+      c .is-existing3 .ensures,
     )
 
 pub status-fits-spec : {M : Type 1} → statement M
@@ -89,14 +89,14 @@ status-fits-spec =
     enum-told-3
     status-requires
     enum-told-4
-    status-requires-2
+    is-existing-requires
     enum-told-5
-    status-requires-3
+    is-existing-requires-2
     enum-told-6
     enum-told-7
     enum-told-8
     enum-told-9
-    status-requires-4
+    is-existing-requires-3
     returns
     returns-2
     returns-3

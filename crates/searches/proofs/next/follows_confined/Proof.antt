@@ -9,7 +9,7 @@ use Rattle.searches.proofs.next.follows_confined.Statement.{statement}
 use Rattle.searches.proofs.next.follows_confined.Tie as tie
 
 is-followed-requires : tie.Need-is-followed-requires
-is-followed-requires c κs = search needs
+is-followed-requires c κs = c .before .pre .0 .long
 
 returns : tie.Need-returns
 returns c = Asking.neither-put _ _ _ _ _ (sym (c .before .is-followed .ensures) ∙ not-true _ (c .if1 .taken))

@@ -1,0 +1,2 @@
+pub mod Ruling
+pub mod Letting
