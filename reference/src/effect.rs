@@ -2,7 +2,7 @@
 
 use crate::config::{Config, Kind, Owner};
 use crate::operation::{Actor, Operation, Put};
-use crate::state::{CLEARED, Contents, DESTROYED, EXISTING, NONE, State, holding};
+use crate::state::{CLEARED, Contents, DESTROYED, EXISTING, GREEN, NONE, State, holding};
 
 /// Objects concerned: codes 7 and 10 the driver's, 8 and 11 the device's (its kind 4 too), 9 and 12 the listed.
 pub fn concerned(config: &Config, operation: &Operation) -> Vec<usize> {
@@ -33,7 +33,7 @@ pub fn apply(config: &Config, state: &State, operation: &Operation) -> State {
                 next.objects[pair.destination - 1].contents = state.contents(pair.source);
             }
         }
-        Operation::Create { partition } => next.status[*partition] = EXISTING,
+        Operation::Create { partition, green } => next.status[*partition] = if *green { GREEN } else { EXISTING },
         Operation::Destroy { partition } => next.status[*partition] = DESTROYED,
         Operation::Activate { partition, .. } | Operation::ActivateExternal { partition, .. } => {
             moved(config, &mut next, operation, *partition as u8);

@@ -1,7 +1,7 @@
 //! The second implementation of the sorter gate, from the papers alone: simple above all, to be compared with the
 //! proved one. Nothing in the library prints.
 //!
-//! Bytes come in, `config` and `operation` make values of them, `questions` ask `state`, `trace` and `closure`,
+//! Bytes come in, `config` and `operation` make values of them, `questions` ask `state`, `trace`, `closure`, `green`,
 //! `effect` makes the state that follows, `writer` makes a file of what stands in `memory`, `gate` and `office` put
 //! bytes out. `generate` makes inputs; `faults` are judges that are wrong in one point each, and `coverage` counts what
 //! inputs show, the faults noticed among it.
@@ -13,6 +13,7 @@ pub mod effect;
 pub mod faults;
 pub mod gate;
 pub mod generate;
+pub mod green;
 pub mod limits;
 pub mod memory;
 pub mod office;

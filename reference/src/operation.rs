@@ -39,8 +39,8 @@ pub enum Operation {
     Write { actor: Actor, items: Vec<Item> },
     /// Codes 3, 4.
     Read { actor: Actor, pairs: Vec<Copying> },
-    /// Code 5.
-    Create { partition: usize },
+    /// Code 5, and code 13 for a green zone (request N5).
+    Create { partition: usize, green: bool },
     /// Code 6.
     Destroy { partition: usize },
     /// Codes 7, 8.
@@ -69,7 +69,7 @@ fn read_operation(reader: &mut Reader) -> Option<Operation> {
     Some(match code {
         1 | 2 => Operation::Write { actor: actor(code, number(reader)?), items: counted(reader, item)? },
         3 | 4 => Operation::Read { actor: actor(code, number(reader)?), pairs: counted(reader, copying)? },
-        5 => Operation::Create { partition: number(reader)? },
+        5 | 13 => Operation::Create { partition: number(reader)?, green: code == 13 },
         6 => Operation::Destroy { partition: number(reader)? },
         7 | 8 => Operation::Activate { actor: actor(code, number(reader)?), partition: number(reader)? },
         9 => Operation::ActivateExternal { partition: number(reader)?, objects: counted(reader, number)? },
@@ -118,7 +118,7 @@ impl Operation {
         match self {
             Operation::Write { actor, .. } => by(actor, 1, 2),
             Operation::Read { actor, .. } => by(actor, 3, 4),
-            Operation::Create { .. } => 5,
+            Operation::Create { green, .. } => [5, 13][usize::from(*green)],
             Operation::Destroy { .. } => 6,
             Operation::Activate { actor, .. } => by(actor, 7, 8),
             Operation::ActivateExternal { .. } => 9,
@@ -140,7 +140,7 @@ impl Operation {
     /// The partition that is named.
     pub fn partition(&self) -> Option<usize> {
         match self {
-            Operation::Create { partition }
+            Operation::Create { partition, .. }
             | Operation::Destroy { partition }
             | Operation::Activate { partition, .. }
             | Operation::ActivateExternal { partition, .. }

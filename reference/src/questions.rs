@@ -1,12 +1,13 @@
-//! Questions 11 to 21, each put for the whole operation before the next. A question here is a function that answers yes
+//! Questions 11 to 22, each put for the whole operation before the next. A question here is a function that answers yes
 //! or no; the first no gives its number.
 
 use crate::closure::{self, Search};
 use crate::config::{Config, Entry, Kind, Owner};
 use crate::effect;
+use crate::green;
 use crate::limits::MAX_PARTITION;
 use crate::operation::{Actor, Operation, Put};
-use crate::state::{EXISTING, NEVER_USED, NONE, State};
+use crate::state::{NEVER_USED, NONE, State, exists};
 use crate::trace;
 use std::collections::BTreeSet;
 
@@ -20,8 +21,8 @@ pub struct Case<'a> {
 
 pub type Question = fn(&Case) -> bool;
 
-/// In the order in which they are asked.
-pub const QUESTIONS: [(u8, Question); 11] = [
+/// In the order in which they are asked: 22 comes before 21, and in a green zone in the place of 19.
+pub const QUESTIONS: [(u8, Question); 12] = [
     (11, names_exist),
     (12, nothing_twice),
     (13, kinds_fit),
@@ -32,6 +33,7 @@ pub const QUESTIONS: [(u8, Question); 11] = [
     (18, transfers_are_described),
     (19, nothing_crosses_after),
     (20, nothing_leaves_in_reach),
+    (22, green_rule_is_kept),
     (21, nothing_crosses_with_the_device),
 ];
 
@@ -91,8 +93,9 @@ fn kinds_fit(case: &Case) -> bool {
 
 /// Question 14.
 fn partition_fits(case: &Case) -> bool {
-    let wanted = if matches!(case.operation, Operation::Create { .. }) { NEVER_USED } else { EXISTING };
-    case.operation.partition().is_none_or(|partition| case.state.status[partition] == wanted)
+    let creates = matches!(case.operation, Operation::Create { .. });
+    let fits = |status: u8| if creates { status == NEVER_USED } else { exists(status) };
+    case.operation.partition().is_none_or(|partition| fits(case.state.status[partition]))
 }
 
 /// Question 15.
@@ -168,14 +171,19 @@ pub fn described_by(case: &Case, described: fn(&Config, &State, usize) -> Vec<En
     }
 }
 
-/// Question 19: a driver's write or read, on the state that would follow, about every active device.
+/// The zone of the driver that writes or reads (codes 1 and 3), before the call.
+fn driver_zone(case: &Case) -> Option<u8> {
+    match case.operation {
+        Operation::Write { actor: Actor::Driver(driver), .. }
+        | Operation::Read { actor: Actor::Driver(driver), .. } => Some(case.state.driver(*driver)),
+        _ => None,
+    }
+}
+
+/// Question 19: a driver's write or read in a zone that is not green, on the state that would follow, about every
+/// active device of the line, those in green zones too.
 fn nothing_crosses_after(case: &Case) -> bool {
-    let (Operation::Write { actor: Actor::Driver(_), .. } | Operation::Read { actor: Actor::Driver(_), .. }) =
-        case.operation
-    else {
-        return true;
-    };
-    !crosses_after(case)
+    driver_zone(case).is_none_or(|zone| case.state.is_green(zone)) || !crosses_after(case)
 }
 
 /// Whether an entry of any active device would cross in the state that would follow.
@@ -185,7 +193,8 @@ fn crosses_after(case: &Case) -> bool {
 }
 
 /// Question 20: deactivations, on the state before the call. A device that leaves counts for nothing itself, but the
-/// pairs that it can write count for the others. An entry of any mode names its object.
+/// pairs that it can write count for the others. An entry of any mode names its object. What leaves a green zone is
+/// besides named by no descriptor that stays there (request N5), whether a device reads it or not.
 fn nothing_leaves_in_reach(case: &Case) -> bool {
     let leaving = match case.operation {
         Operation::Deactivate { actor } => Some(*actor),
@@ -196,7 +205,21 @@ fn nothing_leaves_in_reach(case: &Case) -> bool {
     let found = (case.search)(case.config, case.state);
     let mut others =
         closure::entries(case.config, &found).filter(|(device, _)| leaving != Some(Actor::Device(*device)));
-    others.all(|(_, entry)| !concerned.contains(&entry.object))
+    let is_reached = others.any(|(_, entry)| concerned.contains(&entry.object));
+    !is_reached && green::names_of_what_stays(case.config, case.state, &concerned).is_empty()
+}
+
+/// Question 22 (request N5), in a green zone: each value that a driver stores into a descriptor keeps the green rule by
+/// itself, and a device that comes in has no ring.
+fn green_rule_is_kept(case: &Case) -> bool {
+    if let Operation::Activate { actor: Actor::Device(device), partition } = case.operation {
+        return !case.state.is_green(*partition as u8) || !case.config.has_ring(*device);
+    }
+    let Some(zone) = driver_zone(case).filter(|zone| case.state.is_green(*zone)) else {
+        return true;
+    };
+    let stored = green::stored_values(case.config, case.state, case.operation);
+    stored.into_iter().all(|value| green::is_green_value(case.config, case.state, zone, value))
 }
 
 /// Question 21 (request N4): a device that comes in, with a ring or without, on the state that would follow, about

@@ -10,10 +10,16 @@ pub type Contents = [u8; CONTENT_BYTES];
 /// Cleared: value 0, or sixteen zero bytes.
 pub const CLEARED: Contents = [0; CONTENT_BYTES];
 
-/// The status of a partition (document 01: standing).
+/// The status of a partition (document 01: standing). A green zone (request N5) exists, with a status of its own.
 pub const NEVER_USED: u8 = 0;
 pub const EXISTING: u8 = 1;
 pub const DESTROYED: u8 = 2;
+pub const GREEN: u8 = 3;
+
+/// Whether a partition of this status exists, green or not.
+pub fn exists(status: u8) -> bool {
+    status == EXISTING || status == GREEN
+}
 
 /// Partition 0: none. What is in it is inactive.
 pub const NONE: u8 = 0;
@@ -119,8 +125,12 @@ impl State {
         }
     }
 
+    pub fn is_green(&self, partition: u8) -> bool {
+        self.status.get(usize::from(partition)) == Some(&GREEN)
+    }
+
     fn is_none_or_existing(&self, partition: u8) -> bool {
-        partition == NONE || self.status.get(usize::from(partition)) == Some(&EXISTING)
+        partition == NONE || self.status.get(usize::from(partition)).is_some_and(|status| exists(*status))
     }
 }
 
@@ -149,7 +159,7 @@ pub fn record_fits(config: &Config, state: &State, number: usize) -> bool {
 
 fn statuses_fit(state: &State) -> bool {
     debug_assert_eq!(state.status.len(), MAX_PARTITION + 1);
-    state.status[0] == NEVER_USED && state.status.iter().all(|status| *status <= DESTROYED)
+    state.status[0] == NEVER_USED && state.status.iter().all(|status| *status <= GREEN)
 }
 
 /// The partition bytes of the drivers, or of the devices, of which the first `count` are there.

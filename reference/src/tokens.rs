@@ -48,7 +48,7 @@ pub fn of_operation(operation: &Operation) -> Vec<Token> {
     let mut row = vec![Token::Number(operation.code())];
     let mut numbers = |values: &[usize]| row.extend(values.iter().map(|value| Token::Number(*value)));
     match operation {
-        Operation::Create { partition } | Operation::Destroy { partition } => numbers(&[*partition]),
+        Operation::Create { partition, .. } | Operation::Destroy { partition } => numbers(&[*partition]),
         Operation::Activate { actor, partition } => numbers(&[actor.number(), *partition]),
         Operation::Deactivate { actor } => numbers(&[actor.number()]),
         Operation::ActivateExternal { partition, objects } | Operation::DeactivateExternal { partition, objects } => {

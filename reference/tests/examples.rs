@@ -1,4 +1,4 @@
-//! The examples of document 01 and of request N4.
+//! The examples of document 01 and of requests N4 and N5.
 
 mod common;
 
@@ -66,6 +66,65 @@ fn example_r() {
     Desk::new(&l_with([2, 2, 4])).accept(&[&[5, 1], &[8, 1, 1]]);
     // Device 2's object.
     assert_eq!(load_check(&l_with([4, 2, 3])), 6);
+}
+
+/// Records and answers, one list of calls.
+fn judged(line: &[u8], rows: &[(&[usize], u32)]) {
+    let mut desk = Desk::new(line);
+    for (record, answer) in rows {
+        assert_eq!(desk.numbers(record), *answer, "{record:?}");
+    }
+}
+
+#[test]
+fn a_green_zone_over_l() {
+    let rows: [(&[usize], u32); 18] = [
+        (&[13, 1], 0),
+        (&[7, 1, 1], 0),
+        (&[8, 1, 1], 0),
+        (&[9, 1, 1, 5], 0),
+        (&[1, 1, 1, 2, 0, 3], 0),
+        (&[12, 1, 1, 5], 20),
+        (&[1, 1, 1, 2, 0, 4], 22),
+        (&[1, 1, 1, 2, 0, 2], 22),
+        (&[3, 1, 1, 2, 0], 0),
+        (&[3, 1, 1, 2, 2], 0),
+        (&[1, 1, 1, 2, 0, 0], 0),
+        (&[12, 1, 1, 5], 0),
+        (&[6, 1], 15),
+        (&[10, 1], 0),
+        (&[11, 1], 0),
+        (&[6, 1], 0),
+        (&[13, 1], 14),
+        (&[5, 1], 14),
+    ];
+    judged(&file_l(), &rows);
+}
+
+/// No device at all: the driver's descriptor holds the external object back that it names, in a green zone only.
+#[test]
+fn question_20_is_stricter_in_green_zones() {
+    let line = row(&[1, 1, 0, 2, 1, 1, 1, 1, 3, 0, 0, 1, 2, 2, 0]);
+    let session = |create: usize, leaving: u32| {
+        judged(
+            &line,
+            &[
+                (&[create, 1], 0),
+                (&[7, 1, 1], 0),
+                (&[9, 1, 1, 2], 0),
+                (&[1, 1, 1, 1, 0, 1], 0),
+                (&[12, 1, 1, 2], leaving),
+                (&[10, 1], 0),
+            ],
+        );
+    };
+    session(13, 20);
+    session(5, 0);
+}
+
+#[test]
+fn a_ring_card_stays_out_of_green_zones() {
+    judged(&l_with([2, 3, 3]), &[(&[13, 1], 0), (&[9, 1, 1, 5], 0), (&[8, 1, 1], 22)]);
 }
 
 #[test]

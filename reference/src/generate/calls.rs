@@ -119,7 +119,7 @@ impl Calls {
         let mut state = load(&line).map_or(Vec::new(), |config| State::fresh(&config).to_bytes());
         state.resize([STATE_BYTES, STATE_BYTES_WIDE][self.rng.below(2)], 0);
         let function = [Function::LoadCheck, Function::Fresh, Function::Operate][self.rng.below(3)];
-        let record = Operation::Create { partition: self.rng.between(0, 64) }.to_bytes();
+        let record = Operation::Create { partition: self.rng.between(0, 64), green: false }.to_bytes();
         Call { state, record, ..self.call(function, line) }
     }
 

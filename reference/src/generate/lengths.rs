@@ -23,7 +23,7 @@ pub fn plain_line(objects: usize) -> Vec<u8> {
 
 /// A call that creates a partition, if it is an operation.
 fn call(function: Function, line: &[u8], state: Vec<u8>) -> Call {
-    let record = Operation::Create { partition: 1 }.to_bytes();
+    let record = Operation::Create { partition: 1, green: false }.to_bytes();
     Call { function, line: line.to_vec(), state, record, answer: vec![0; ANSWER_BYTES], carried: false }
 }
 

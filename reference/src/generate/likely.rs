@@ -40,7 +40,7 @@ impl Scene<'_> {
     fn setup(&mut self) -> Vec<Operation> {
         let status = |zone: usize| self.state.status[zone];
         let unused = self.world.zones.iter().copied().filter(|zone| status(*zone) == NEVER_USED);
-        let mut list: Vec<Operation> = unused.map(|partition| Operation::Create { partition }).collect();
+        let mut list: Vec<Operation> = unused.map(|partition| Operation::Create { partition, green: false }).collect();
         list.extend(self.absent(&self.world.drivers, &self.state.drivers, Actor::Driver));
         list.extend(self.absent(&self.world.devices, &self.state.devices, Actor::Device));
         for zone in &self.world.zones {
@@ -64,7 +64,7 @@ impl Scene<'_> {
     }
 
     fn create(&mut self) -> Operation {
-        Operation::Create { partition: self.rng.between(1, MAX_PARTITION) }
+        Operation::Create { partition: self.rng.between(1, MAX_PARTITION), green: false }
     }
 
     /// How many parts a record gets: mostly few.

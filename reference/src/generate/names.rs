@@ -38,7 +38,7 @@ pub fn names(operation: &mut Operation) -> Vec<(Name, &mut usize)> {
             }
             (Some(actor), None, None)
         }
-        Operation::Create { partition } | Operation::Destroy { partition } => (None, Some(partition), None),
+        Operation::Create { partition, .. } | Operation::Destroy { partition } => (None, Some(partition), None),
         Operation::Activate { actor, partition } => (Some(actor), Some(partition), None),
         Operation::Deactivate { actor } => (Some(actor), None, None),
         Operation::ActivateExternal { partition, objects } | Operation::DeactivateExternal { partition, objects } => {

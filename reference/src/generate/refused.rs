@@ -45,7 +45,7 @@ impl Scene<'_> {
                 self.raw_items(Operation::Write { actor, items })
             }
             1 => Operation::Read { actor, pairs: vec![Copying { source: 1, destination: 0 }; count] },
-            2 => Operation::Create { partition: 1 },
+            2 => Operation::Create { partition: 1, green: false },
             3 => Operation::Destroy { partition: 1 },
             4 => Operation::Activate { actor, partition: 1 },
             5 => Operation::ActivateExternal { partition: 1, objects: vec![1; count] },
@@ -140,7 +140,7 @@ impl Scene<'_> {
     fn with_wrong_partition(&mut self) -> Operation {
         let used: Vec<usize> = (1..=63).filter(|zone| self.state.status[*zone] != 0).collect();
         if let Some(partition) = self.rng.pick(&used).filter(|_| self.rng.percent(40)) {
-            return Operation::Create { partition };
+            return Operation::Create { partition, green: false };
         }
         let gone: Vec<usize> = (1..=63).filter(|zone| self.state.status[*zone] != EXISTING).collect();
         let mut operation = if self.rng.percent(60) { self.likely() } else { self.anything() };

@@ -160,7 +160,7 @@ impl Script<'_> {
     /// Creates all partitions.
     pub fn create(&mut self) {
         let zones = self.world.zones.iter();
-        self.operations.extend(zones.map(|partition| Operation::Create { partition: *partition }));
+        self.operations.extend(zones.map(|partition| Operation::Create { partition: *partition, green: false }));
     }
 
     /// What brings in all that is not meant to be in none.
