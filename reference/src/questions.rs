@@ -32,7 +32,7 @@ pub const QUESTIONS: [(u8, Question); 12] = [
     (17, objects_are_there),
     (18, transfers_are_described),
     (19, nothing_crosses_after),
-    (20, nothing_leaves_in_reach),
+    (20, nothing_leaves_named),
     (22, green_rule_is_kept),
     (21, nothing_crosses_with_the_device),
 ];
@@ -172,7 +172,7 @@ pub fn described_by(case: &Case, described: fn(&Config, &State, usize) -> Vec<En
 }
 
 /// The zone of the driver that writes or reads (codes 1 and 3), before the call.
-fn driver_zone(case: &Case) -> Option<u8> {
+pub fn driver_zone(case: &Case) -> Option<u8> {
     match case.operation {
         Operation::Write { actor: Actor::Driver(driver), .. }
         | Operation::Read { actor: Actor::Driver(driver), .. } => Some(case.state.driver(*driver)),
@@ -187,26 +187,36 @@ fn nothing_crosses_after(case: &Case) -> bool {
 }
 
 /// Whether an entry of any active device would cross in the state that would follow.
-fn crosses_after(case: &Case) -> bool {
+pub fn crosses_after(case: &Case) -> bool {
     let next = effect::apply(case.config, case.state, case.operation);
     closure::any_crosses(case.config, &next, case.search)
 }
 
-/// Question 20: deactivations, on the state before the call. A device that leaves counts for nothing itself, but the
-/// pairs that it can write count for the others. An entry of any mode names its object. What leaves a green zone is
-/// besides named by no descriptor that stays there (request N5), whether a device reads it or not.
-fn nothing_leaves_in_reach(case: &Case) -> bool {
+/// Question 20: deactivations, on the state before the call.
+fn nothing_leaves_named(case: &Case) -> bool {
+    !leaves_in_reach(case) && !leaves_named_in_green(case)
+}
+
+/// Whether an active device has an entry in reach that names what leaves. A device that leaves counts for nothing
+/// itself, but the pairs that it can write count for the others. An entry of any mode names its object.
+pub fn leaves_in_reach(case: &Case) -> bool {
     let leaving = match case.operation {
         Operation::Deactivate { actor } => Some(*actor),
         Operation::DeactivateExternal { .. } => None,
-        _ => return true,
+        _ => return false,
     };
     let concerned = effect::concerned(case.config, case.operation);
     let found = (case.search)(case.config, case.state);
     let mut others =
         closure::entries(case.config, &found).filter(|(device, _)| leaving != Some(Actor::Device(*device)));
-    let is_reached = others.any(|(_, entry)| concerned.contains(&entry.object));
-    !is_reached && green::names_of_what_stays(case.config, case.state, &concerned).is_empty()
+    others.any(|(_, entry)| concerned.contains(&entry.object))
+}
+
+/// Whether a descriptor that stays in a green zone names what leaves it (request N5), read by a device or not.
+pub fn leaves_named_in_green(case: &Case) -> bool {
+    let leaves = matches!(case.operation, Operation::Deactivate { .. } | Operation::DeactivateExternal { .. });
+    let concerned = effect::concerned(case.config, case.operation);
+    leaves && !green::names_of_what_stays(case.config, case.state, &concerned).is_empty()
 }
 
 /// Question 22 (request N5), in a green zone: each value that a driver stores into a descriptor keeps the green rule by

@@ -1,9 +1,10 @@
-//! Request N3: the first object record of a state area that breaks a rule. Numbers are written out here.
+//! Request N3: the first object record of a state area that breaks a rule, and question 9 with green zones (request
+//! N5). Numbers are written out here.
 
 mod common;
 
 use common::desk_after_seven;
-use reference::faults::walks::WALKS;
+use reference::faults::walks::{FORMED, NO_GREEN, WALKS};
 use reference::generate::damaged::{Damaged, Line, lines, sound};
 use reference::generate::lengths::plain_line;
 use reference::generate::worlds::world;
@@ -118,7 +119,8 @@ fn the_smaller_of_two_counts() {
 
 #[test]
 fn a_head_that_breaks_no_record_gives_0_and_question_9_says_no() {
-    let heads = [(0, 1), (0, 2), (0, 255), (3, 3), (63, 255), (65, 3), (65, 64), (66, 1), (79, 2), (82, 1), (95, 1)];
+    let heads =
+        [(0, 1), (0, 2), (0, 3), (0, 255), (3, 4), (63, 255), (65, 3), (65, 64), (66, 1), (79, 2), (82, 1), (95, 1)];
     for change in heads {
         assert_eq!(with_bytes(&[change]), (0, 9), "{change:?}");
     }
@@ -132,7 +134,7 @@ fn a_head_that_breaks_no_record_gives_0_and_question_9_says_no() {
 #[test]
 fn a_head_that_breaks_records_gives_the_first_of_them() {
     // The status of partition 1, where objects 1, 2, 5 and 6 are, and of 2, where 3 and 4 are.
-    for status in [0, 2, 3, 255] {
+    for status in [0, 2, 4, 255] {
         assert_eq!(with_bytes(&[(1, status)]), (1, 9), "{status}");
         assert_eq!(with_bytes(&[(2, status)]), (3, 9), "{status}");
     }
@@ -151,7 +153,42 @@ fn a_head_that_breaks_records_gives_the_first_of_them() {
     assert_eq!(with_bytes(&[(81, 1), (at(3), 1)]), (4, 9));
     // Only an external object is in partition 3: the head keeps its rules.
     assert_eq!(with_bytes(&[(3, 1), (at(5), 3)]), (0, 10));
+    assert_eq!(with_bytes(&[(3, 3), (at(5), 3)]), (0, 10));
     assert_eq!(with_bytes(&[(3, 2), (at(5), 3)]), (5, 9));
+}
+
+/// A green zone's standing is 3: whoever was in a partition may be in a green one, and nothing else is a standing.
+#[test]
+fn green_zones_exist() {
+    assert_eq!(with_bytes(&[(1, 3)]), (0, 10));
+    assert_eq!(with_bytes(&[(2, 3)]), (0, 10));
+    assert_eq!(with_bytes(&[(1, 3), (2, 3), (63, 3)]), (0, 10));
+    // Nobody is in partition 3: the record that is put there is right if it exists.
+    assert_eq!(with_bytes(&[(3, 3), (81, 3), (at(3), 3), (at(4), 3), (65, 3)]), (0, 10));
+    assert_eq!(with_bytes(&[(3, 3), (81, 3), (at(3), 3)]), (4, 9));
+    assert_eq!(with_bytes(&[(0, 3)]), (0, 9));
+    for status in 4..=255 {
+        assert_eq!(with_bytes(&[(3, status)]), (0, 9), "{status}");
+        assert_eq!(with_bytes(&[(2, status)]), (3, 9), "{status}");
+        assert_eq!(with_bytes(&[(3, status), (at(5), 3)]), (5, 9), "{status}");
+    }
+}
+
+#[test]
+fn damaged_areas_tell_every_faulty_question_9() {
+    let mut told = FORMED.map(|(name, _)| (name, [0; 2]));
+    for Line { config, areas, .. } in damaged_lines(28, 50) {
+        for one in &areas {
+            let right = one.place == 0 && one.head_fits;
+            for ((_, formed), (_, counts)) in FORMED.iter().zip(&mut told) {
+                counts[usize::from(config.is_wide())] += usize::from(formed(&config, &one.state) != right);
+            }
+        }
+    }
+    println!("{told:?}");
+    for (name, counts) in told {
+        assert!(counts.iter().all(|count| *count >= 3), "{name}: {counts:?}");
+    }
 }
 
 #[test]
@@ -280,7 +317,7 @@ fn every_rule_is_broken_at_every_place_of_both_rooms() {
     for name in ["an absent object's partition", "an absent object's contents", "the head and a record"] {
         ["N + 1", "last", "any"].into_iter().for_each(|place| often(name, place));
     }
-    let alone = ["status 0", "a status above 2", "a driver without objects", "an absent driver", "an absent device"];
+    let alone = ["status 0", "a status above 3", "a driver without objects", "an absent driver", "an absent device"];
     let status = ["destroyed", "never used", "with no status"].map(|name| format!("objects in a partition {name}"));
     let ways = ["inactive", "elsewhere", "nowhere", "nowhere with its objects"];
     let owners = ways.into_iter().flat_map(|way| ["driver", "device"].map(|owner| format!("a {owner} {way}")));
@@ -312,6 +349,7 @@ fn faulty_walks_find_nothing_new_in_sound_states() {
     for size in [Size::Small, Size::Full, Size::Wide].into_iter().cycle().take(30) {
         let config = world(&mut rng, size).config;
         let state: State = sound(&mut rng, &config);
-        WALKS.iter().for_each(|(name, walk)| assert_eq!(walk(&config, &state), 0, "{name}"));
+        let others = WALKS.iter().filter(|(name, _)| *name != NO_GREEN);
+        others.for_each(|(name, walk)| assert_eq!(walk(&config, &state), 0, "{name}"));
     }
 }

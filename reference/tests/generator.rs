@@ -6,7 +6,7 @@ use reference::gate::judge;
 use reference::generate::records::record;
 use reference::generate::rewrites::rewrites;
 use reference::generate::worlds::world;
-use reference::generate::{Rng, Size, Want, areas, broken, ringed};
+use reference::generate::{Rng, Size, Want, World, areas, broken, greened, ringed};
 use reference::state::{State, well_formed};
 use reference::{effect, load, operation, rewrite};
 use std::collections::BTreeSet;
@@ -82,13 +82,13 @@ fn areas_are_broken_or_well_formed_as_asked() {
     assert!(bad > 350, "{bad}");
 }
 
-/// How many answers of each number a size gives, and the depths of searches that end accepted and refused.
-fn survey(size: Size) -> ([usize; 22], [BTreeSet<usize>; 2]) {
-    let mut seen = [0; 22];
+/// How many answers of each number worlds of a size give, and the depths of searches that end accepted and refused.
+fn survey(make: fn(&mut Rng, Size) -> World, size: Size) -> ([usize; 23], [BTreeSet<usize>; 2]) {
+    let mut seen = [0; 23];
     let mut depths = [BTreeSet::new(), BTreeSet::new()];
     for seed in 0..60 {
         let mut rng = Rng::part(5, seed);
-        let world = ringed(&mut rng, size);
+        let world = make(&mut rng, size);
         let mut state = State::fresh(&world.config);
         for _ in 0..60 + world.config.objects.len() {
             let want = Want::any(&mut rng, &world);
@@ -113,11 +113,21 @@ fn survey(size: Size) -> ([usize; 22], [BTreeSet<usize>; 2]) {
 fn sessions_go_deep_and_show_every_number() {
     let sizes = [(Size::Small, 8), (Size::Medium, 20), (Size::Deep, 60), (Size::Full, 30), (Size::Wide, 60)];
     for (size, depth) in sizes {
-        let (seen, depths) = survey(size);
+        let (seen, depths) = survey(ringed, size);
         println!("{size:?} {seen:?}\n  accepted at {:?}\n  refused at {:?}", depths[0], depths[1]);
         assert!(seen[0] * 2 > seen.iter().sum(), "{size:?} {seen:?}");
         assert!((10..=21).all(|number| seen[number] >= 20), "{size:?} {seen:?}");
         assert!(depths.iter().all(|depths| depths.last() >= Some(&depth)), "{size:?} {depths:?}");
+    }
+}
+
+#[test]
+fn sessions_with_green_zones_show_every_number() {
+    for size in [Size::Small, Size::Medium, Size::Deep, Size::Full, Size::Wide] {
+        let (seen, depths) = survey(greened, size);
+        println!("{size:?} {seen:?}\n  accepted at {:?}\n  refused at {:?}", depths[0], depths[1]);
+        assert!(seen[0] * 2 > seen.iter().sum(), "{size:?} {seen:?}");
+        assert!((10..=22).all(|number| seen[number] >= 20), "{size:?} {seen:?}");
     }
 }
 

@@ -3,11 +3,13 @@
 mod common;
 
 use common::file_l;
-use reference::generate::corners::ring_corners;
+use reference::generate::corners::{green_corners, ring_corners};
 use reference::generate::drills::POINTS;
-use reference::generate::stored::{MOST_INPUT, RING_CASES, long, with_drills};
-use reference::generate::{Rng, Size, sessions::folder, stored};
-use reference::{load, report};
+use reference::generate::stored::{GREEN_CASES, MOST_INPUT, RING_CASES, long, with_drills};
+use reference::generate::{Folder, Rng, Size, sessions::folder, stored};
+use reference::office::next_record;
+use reference::varint::Reader;
+use reference::{load, operation, report};
 
 fn text(line: &[u8], session: &[u8]) -> String {
     String::from_utf8(report(line, session)).expect("plain text")
@@ -57,7 +59,8 @@ fn lengths_and_cuts() {
 fn stored_cases_hold_together() {
     let cases = with_drills(1, 300, 120_000);
     let drills: usize = POINTS.iter().map(|(_, count)| count).sum();
-    assert_eq!(cases.tally.cases, 300 + drills + ring_corners().len() + RING_CASES);
+    let corners = ring_corners().len() + green_corners().len();
+    assert_eq!(cases.tally.cases, 300 + drills + corners + RING_CASES + GREEN_CASES);
     assert!(cases.input.len() <= MOST_INPUT);
     assert_eq!(cases.tally.rare(5), Vec::<usize>::new());
     assert!(cases.tally.cut >= 5 && cases.tally.silent >= 1);
@@ -80,7 +83,7 @@ fn checksum(bytes: &[u8]) -> u64 {
 }
 
 /// The cases that were stored before there were wide configurations come first, byte for byte; then those of wide ones,
-/// then those of devices with rings.
+/// then those of devices with rings, then those of green zones, of which one example has none.
 #[test]
 fn the_cases_of_before_come_first() {
     let cases = with_drills(1, 300, 120_000);
@@ -90,28 +93,57 @@ fn the_cases_of_before_come_first() {
     let objects: Vec<usize> =
         wide.iter().map(|case| load(&case.line).expect("the file is accepted").objects.len()).collect();
     assert_eq!(objects, [192, 128, 191, 97]);
-    let behind = stored::cases(&cases.input[130_929..]).expect("whole cases");
+    assert_eq!(checksum(&cases.input[..147_001]), 0xFF3B_E4C2_36CF_5C66);
+    let behind = stored::cases(&cases.input[130_929..147_001]).expect("whole cases");
     let ringed = behind.iter().filter(|case| load(&case.line).is_ok_and(|config| config.has_rings()));
     assert!(ringed.count() > 45);
+    let behind = stored::cases(&cases.input[147_001..]).expect("whole cases");
+    assert_eq!(behind.iter().filter(|case| green_records(&case.session).contains(&true)).count(), behind.len() - 1);
 }
 
-/// Two of the files stored before have a hardcoded value that writes a descriptor. They were refused by 6 then; all
-/// others have their answers of before.
+/// For each record of a session whether it creates a green zone.
+fn green_records(session: &[u8]) -> Vec<bool> {
+    let mut reader = Reader::new(session);
+    let records = std::iter::from_fn(|| next_record(&mut reader));
+    let is_green = |record: &[u8]| operation::read(record).is_some_and(|operation| operation.code() == 13);
+    records.map(is_green).collect()
+}
+
+/// What a case printed before there were green zones: records of code 13 could not be read.
+fn text_of_before(case: &Folder) -> String {
+    let text = text(&case.line, &case.session);
+    if text.starts_with("line") {
+        return text;
+    }
+    let green = green_records(&case.session);
+    let rows = text.lines().enumerate().map(|(place, row)| match green.get(place) {
+        Some(true) => format!("{} 10\n", place + 1),
+        _ => format!("{row}\n"),
+    });
+    rows.collect()
+}
+
+/// Two of the files stored before there were rings have a hardcoded value that writes a descriptor: they were refused
+/// by 6 then. Two records stored before there were green zones have code 13, and were refused by 10. All others have
+/// their answers of before.
 #[test]
 fn the_cases_of_before_keep_their_answers() {
     let stored = with_drills(1, 300, 120_000);
-    let cases = stored::cases(&stored.input[..130_929]).expect("whole cases");
+    let before = |bytes: usize| stored::cases(&stored.input[..bytes]).expect("whole cases");
+    let expected = |cases: &[Folder], text: &dyn Fn(&Folder) -> String| -> Vec<u8> {
+        cases.iter().flat_map(|case| (text(case) + ".\n").into_bytes()).collect()
+    };
+    let green = before(147_001).iter().flat_map(|case| green_records(&case.session)).filter(|green| *green).count();
+    assert_eq!(green, 2);
+    assert_eq!(checksum(&expected(&before(147_001), &text_of_before)), 0xA2B7_2DF7_2894_8365);
     let has_rings = |line: &[u8]| load(line).is_ok_and(|config| config.has_rings());
+    let cases = before(130_929);
     assert_eq!(cases.iter().filter(|case| has_rings(&case.line)).count(), 2);
-    let expected: Vec<u8> = cases
-        .iter()
-        .flat_map(|case| {
-            let text = if has_rings(&case.line) { b"line 6\n".to_vec() } else { report(&case.line, &case.session) };
-            [text, b".\n".to_vec()].concat()
-        })
-        .collect();
-    assert_eq!(checksum(&expected[..45_012]), 0x333B_C369_F988_7F58);
-    assert_eq!(checksum(&expected), 0xC620_726A_FB9B_22CF);
+    let without_rings =
+        |case: &Folder| if has_rings(&case.line) { "line 6\n".to_string() } else { text_of_before(case) };
+    let text = expected(&cases, &without_rings);
+    assert_eq!(checksum(&text[..45_012]), 0x333B_C369_F988_7F58);
+    assert_eq!(checksum(&text), 0xC620_726A_FB9B_22CF);
 }
 
 #[test]

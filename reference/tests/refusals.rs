@@ -151,7 +151,22 @@ fn with_byte(place: usize, byte: u8) -> u32 {
 
 #[test]
 fn question_9_for_statuses_drivers_and_devices() {
-    let broken = [(0, 1), (3, 3), (1, 2), (1, 0), (64, 3), (64, 64), (64, 2), (66, 1), (80, 0), (80, 255), (82, 1)];
+    let broken = [
+        (0, 1),
+        (0, 3),
+        (3, 4),
+        (3, 255),
+        (1, 2),
+        (1, 4),
+        (1, 0),
+        (64, 3),
+        (64, 64),
+        (64, 2),
+        (66, 1),
+        (80, 0),
+        (80, 255),
+        (82, 1),
+    ];
     for (place, byte) in broken {
         assert_eq!(with_byte(place, byte), 9, "byte {place} set to {byte}");
     }
@@ -173,8 +188,17 @@ fn question_9_for_records() {
 #[test]
 fn question_10_wherever_a_record_is_cut() {
     let raw = [&[1, 1, 2, 2, 0, 0, 6, 1][..], &[9; 16]].concat();
-    let records =
-        [&raw[..], &[3, 1, 2, 2, 0, 6, 5], &[5, 3], &[6, 2], &[7, 2, 1], &[9, 1, 1, 5], &[11, 2], &[12, 1, 1, 5]];
+    let records = [
+        &raw[..],
+        &[3, 1, 2, 2, 0, 6, 5],
+        &[5, 3],
+        &[13, 4],
+        &[6, 2],
+        &[7, 2, 1],
+        &[9, 1, 1, 5],
+        &[11, 2],
+        &[12, 1, 1, 5],
+    ];
     for record in records {
         let mut desk = desk_after_seven();
         for length in 0..record.len() {
@@ -184,9 +208,12 @@ fn question_10_wherever_a_record_is_cut() {
         assert_ne!(desk.record(record), 10);
     }
     let mut desk = desk_after_seven();
-    let unreadable: [&[u8]; 9] = [
+    let unreadable: [&[u8]; 12] = [
         &[0],
-        &[13, 1],
+        &[14, 1],
+        &[15, 1],
+        &[13, 131, 0],
+        &[141, 0, 3],
         &[5, 131, 0],
         &[5, 128, 128, 4],
         &[5, 129, 128, 128, 0],
@@ -240,9 +267,18 @@ fn questions_11_to_20_of_a_record() {
 }
 
 #[test]
+fn code_13_needs_a_partition_that_was_never_used() {
+    let mut desk = desk_after_seven();
+    for (partition, answer) in [(0, 11), (64, 11), (70, 11), (65_535, 11), (1, 14), (2, 14), (3, 0), (3, 14), (63, 0)] {
+        assert_eq!(desk.numbers(&[13, partition]), answer, "{partition}");
+    }
+    assert_eq!((desk.state[1], desk.state[3], desk.state[63]), (1, 3, 3));
+}
+
+#[test]
 fn refusals_change_nothing_in_generated_calls() {
     let mut calls = Calls::new(11);
-    let mut seen = [0; 22];
+    let mut seen = [0; 23];
     for _ in 0..20_000 {
         let call = calls.next_call();
         let (number, state, answer) = run(&call);

@@ -1,6 +1,7 @@
 //! The least that stored cases must show, what is missing, and the counts as text.
 
 use super::chains::{ORDERS, Order};
+use super::greens::Greens;
 use super::wide::Wide;
 use super::{Coverage, LONGEST, Noticed};
 use crate::faults::{Fault, LOADERS};
@@ -10,11 +11,18 @@ use std::fmt;
 /// Chains of each length: those that cross, in each order, and those that end at what leaves.
 const CHAINS: usize = 2;
 /// Refusals by a number of a code.
-const REFUSED: [(u8, usize, usize); 6] =
-    [(19, 1, 300), (19, 3, 100), (20, 10, 30), (20, 11, 30), (20, 12, 30), (21, 8, 100)];
+const REFUSED: [(u8, usize, usize); 8] =
+    [(19, 1, 300), (19, 3, 100), (20, 10, 30), (20, 11, 30), (20, 12, 30), (21, 8, 100), (22, 1, 100), (22, 8, 20)];
 /// Rings whose chains leave after so many steps: each step is a descriptor write, and the chain is one longer.
 const STEPS: [usize; 3] = [1, 2, 10];
 const RINGS: usize = 5;
+/// In green zones (request N5): cases with such zones beside others, records of code 13 by answer, writes and copies
+/// that are accepted, refusals by 20's stricter part alone, by code, and devices that come in.
+const GREEN_CASES: usize = 20;
+const CREATED: [(u8, usize); 4] = [(0, 50), (10, 5), (11, 5), (14, 15)];
+const GREEN_STORED: [(usize, usize); 2] = [(1, 60), (3, 20)];
+const STRICT: [(usize, usize); 3] = [(10, 10), (11, 10), (12, 15)];
+const GREEN_ENTERED: usize = 30;
 /// Files that a faulty question 6 answers in another way.
 const FILES: usize = 3;
 /// Calls that notice a fault, for each right answer that must show it.
@@ -86,7 +94,8 @@ impl Coverage {
 
     /// All rows but those of the faulty judges.
     fn rows(&self) -> Vec<Row> {
-        [self.chain_rows(), self.refusal_rows(), self.ring_rows(), self.wide.rows()].into_iter().flatten().collect()
+        let rows = [self.chain_rows(), self.refusal_rows(), self.ring_rows(), self.wide.rows(), self.greens.rows()];
+        rows.into_iter().flatten().collect()
     }
 
     /// What is below its least, and what contradicts itself.
@@ -105,6 +114,24 @@ impl Coverage {
 
 fn longest(lengths: &[usize]) -> usize {
     lengths.iter().copied().max().unwrap_or(0)
+}
+
+impl Greens {
+    fn rows(&self) -> Vec<Row> {
+        let row =
+            |name: String, count: Option<&usize>, least: usize| Row { name, count: count.copied().unwrap_or(0), least };
+        let zones = row("cases with green zones beside others".to_string(), Some(&self.cases), GREEN_CASES);
+        let created = CREATED.map(|(number, least)| {
+            row(format!("records of code 13 with answer {number}"), self.created.get(&number), least)
+        });
+        let stored = GREEN_STORED.map(|(code, least)| {
+            row(format!("values stored in green zones by code {code}"), self.stored.get(&code), least)
+        });
+        let strict = STRICT
+            .map(|(code, least)| row(format!("stricter refusals by 20 of code {code}"), self.strict.get(&code), least));
+        let entered = row("devices that come into green zones".to_string(), Some(&self.entered), GREEN_ENTERED);
+        [zones].into_iter().chain(created).chain(stored).chain(strict).chain([entered]).collect()
+    }
 }
 
 impl Wide {

@@ -2,6 +2,7 @@
 //! many cases notice it. Counted from the cases' bytes alone, whatever made them.
 
 pub mod chains;
+pub mod greens;
 mod least;
 pub mod wide;
 
@@ -17,6 +18,7 @@ use crate::operation::{self, Actor, Operation};
 use crate::state::State;
 use crate::varint::Reader;
 use chains::{Chain, Order, shortest};
+use greens::Greens;
 use std::collections::BTreeMap;
 use wide::Wide;
 
@@ -48,10 +50,12 @@ pub struct Coverage {
     pub leaving: BTreeMap<usize, usize>,
     /// Chains to an entry that would cross with a device that comes in, by length.
     pub entering: BTreeMap<usize, usize>,
-    /// Refusals by 19 of codes 1 and 3, by 20 of codes 10, 11 and 12, and by 21 of code 8.
+    /// Refusals by 19 and 22 of codes 1 and 3, by 20 of codes 10, 11 and 12, and by 21 and 22 of code 8.
     pub refused: BTreeMap<(u8, usize), usize>,
     /// What is shown of wide configurations.
     pub wide: Wide,
+    /// What is shown of green zones.
+    pub greens: Greens,
     /// Calls that the closure judges in one way and the search for the shortest chain in the other.
     pub contradictions: usize,
     pub noticed: Vec<Noticed>,
@@ -79,6 +83,7 @@ impl Coverage {
             entering: BTreeMap::new(),
             refused: BTreeMap::new(),
             wide: Wide::default(),
+            greens: Greens::default(),
             contradictions: 0,
             noticed: noticed.collect(),
             loaded: [0; LOADERS.len()],
@@ -95,7 +100,9 @@ impl Coverage {
     fn count(&mut self, config: &Config, calls: &[Call]) {
         self.calls += calls.len();
         self.wide.count(config, calls.iter().map(|call| (call.record, call.number)));
+        self.greens.count_case(calls.iter().map(|call| &call.after));
         for call in calls {
+            self.greens.count(config, &call.before, call.record, call.number);
             self.count_chain(config, call);
         }
         for noticed in &mut self.noticed {
@@ -111,20 +118,30 @@ impl Coverage {
         }
     }
 
-    /// The chain behind a refusal by 19 to 21; there is none behind any other call that these questions were put to.
+    /// The chain behind a refusal by 19 to 21; there is none behind any other call that these questions were put to,
+    /// nor behind a write or copy that a green zone's rule passes. A refusal by 20 may come from the stricter part
+    /// alone, and behind one by 22 there may be a chain or none.
     fn count_chain(&mut self, config: &Config, call: &Call) {
-        let Some(operation) = operation::read(call.record).filter(|_| matches!(call.number, 0 | 19..=21)) else {
+        let Some(operation) = operation::read(call.record).filter(|_| matches!(call.number, 0 | 19..=22)) else {
             return;
         };
+        if call.number != 0 {
+            *self.refused.entry((call.number, operation.code())).or_default() += 1;
+        }
+        if call.number == 22 {
+            return;
+        }
         let chain = match operation.code() {
             1 | 3 | 8 => chain_to_crossing(config, &call.before, &operation),
             10..=12 => chain_to_leaving(config, &call.before, &operation),
             _ => None,
         };
-        self.contradictions += usize::from(chain.is_some() != (call.number != 0));
-        if call.number != 0 {
-            *self.refused.entry((call.number, operation.code())).or_default() += 1;
+        let leaves = matches!(operation.code(), 10..=12);
+        let named = leaves && greens::is_named(config, &call.before, &operation);
+        if named && chain.is_none() {
+            *self.greens.strict.entry(operation.code()).or_default() += 1;
         }
+        self.contradictions += usize::from((chain.is_some() || named) != (call.number != 0));
         if let Some(chain) = &chain {
             self.wide.count_chain(chain, call.number);
         }

@@ -5,7 +5,7 @@ use crate::closure::{self, closure};
 use crate::config::{Config, Entry, Kind};
 use crate::effect;
 use crate::operation::{Actor, Operation};
-use crate::questions::{Case, QUESTIONS, described_by};
+use crate::questions::{Case, QUESTIONS, described_by, driver_zone, leaves_in_reach, leaves_named_in_green};
 use crate::state::{NONE, State};
 use crate::trace;
 use std::collections::BTreeSet;
@@ -21,7 +21,8 @@ pub fn code_3_passes_19(case: &Case) -> bool {
 
 /// Question 19 with another state than the one that would follow.
 fn crosses_in(case: &Case, state: &State) -> bool {
-    !matches!(case.operation.code(), 1 | 3) || !closure::any_crosses(case.config, state, case.search)
+    let asked = driver_zone(case).is_some_and(|zone| !case.state.is_green(zone));
+    !asked || !closure::any_crosses(case.config, state, case.search)
 }
 
 pub fn crosses_before(case: &Case) -> bool {
@@ -34,7 +35,7 @@ pub fn crosses_one_by_one(case: &Case) -> bool {
 
 pub fn leaves_after(case: &Case) -> bool {
     let next = effect::apply(case.config, case.state, case.operation);
-    plain(20, &Case { state: &next, ..*case })
+    !leaves_in_reach(&Case { state: &next, ..*case }) && !leaves_named_in_green(case)
 }
 
 /// Question 20 with the entries of all active devices, the leaving one among them.
@@ -42,7 +43,8 @@ pub fn leaves_with_own(case: &Case) -> bool {
     let concerned = effect::concerned(case.config, case.operation);
     let found = (case.search)(case.config, case.state);
     let mut all = closure::entries(case.config, &found);
-    !(10..=12).contains(&case.operation.code()) || all.all(|(_, entry)| !concerned.contains(&entry.object))
+    let passes = all.all(|(_, entry)| !concerned.contains(&entry.object)) && !leaves_named_in_green(case);
+    !(10..=12).contains(&case.operation.code()) || passes
 }
 
 /// Question 18 by the descriptors that are at most so many steps from the hardcoded one.

@@ -3,11 +3,14 @@
 //! shows a state area that is broken, so walks over one (`walks`) stand beside these judges.
 
 mod answers;
+mod colours;
+mod green;
 mod rings;
 mod searches;
 pub mod walks;
 mod wide;
 
+pub use green::UNREACHED as GREEN_UNREACHED;
 pub use rings::{LOADERS, UNREACHED};
 
 use crate::closure::{Search, closure, limited};
@@ -18,6 +21,8 @@ use crate::limits::{MAX_ONE_BYTE, SMALL_ROOM};
 use crate::operation::{self, Operation};
 use crate::questions::{Case, QUESTIONS, Question};
 use crate::state::State;
+use colours::COLOURS;
+use green::GREENS;
 use rings::RINGS;
 
 /// What makes the state that follows.
@@ -46,8 +51,8 @@ pub struct Fault {
     objects: usize,
     search: Search,
     instead: Option<(u8, Question)>,
-    /// The question that 21 is put before.
-    early: Option<u8>,
+    /// A question, and the one that it is put before.
+    early: Option<(u8, u8)>,
     apply: Apply,
     taken: Option<Taken>,
     named: Named,
@@ -175,8 +180,8 @@ const OTHERS: [Fault; 7] = [
 
 /// A fault of wide configurations with at least so many objects: it can touch everything, and accepted calls show it.
 const fn wide(name: &'static str, objects: usize) -> Fault {
-    const CODES: &[usize] = &[1, 2, 3, 4, 5, 6, 7, 8, 9, 10, 11, 12];
-    const ANSWERS: &[u8] = &[0, 10, 11, 12, 13, 14, 15, 16, 17, 18, 19, 20, 21];
+    const CODES: &[usize] = &[1, 2, 3, 4, 5, 6, 7, 8, 9, 10, 11, 12, 13];
+    const ANSWERS: &[u8] = &[0, 10, 11, 12, 13, 14, 15, 16, 17, 18, 19, 20, 21, 22];
     Fault { name, codes: CODES, touches: ANSWERS, asked: &[0], objects, ..NONE }
 }
 
@@ -208,7 +213,7 @@ const WIDE: [Fault; 7] = [
 
 /// All faults that sessions notice.
 pub fn all() -> Vec<Fault> {
-    [&SEARCHES[..], &DESCRIBED, &OTHERS, &WIDE, &RINGS].concat()
+    [&SEARCHES[..], &DESCRIBED, &OTHERS, &WIDE, &RINGS, &GREENS, &COLOURS].concat()
 }
 
 impl Fault {
@@ -225,7 +230,7 @@ impl Fault {
     }
 }
 
-/// Questions 10 to 21 as the faulty judge puts them, for a well formed state; a file that it refuses is refused at
+/// Questions 10 to 22 as the faulty judge puts them, for a well formed state; a file that it refuses is refused at
 /// every call.
 pub fn judge(fault: &Fault, config: &Config, state: &State, record: &[u8]) -> Judgement {
     let taken = fault.taken.map(|taken| taken(config)).transpose()?;
@@ -246,9 +251,11 @@ pub fn judge(fault: &Fault, config: &Config, state: &State, record: &[u8]) -> Ju
 /// The questions in the order in which the faulty judge asks them.
 fn order(fault: &Fault) -> Vec<(u8, Question)> {
     let mut list = QUESTIONS.to_vec();
-    let place = list.iter().position(|(number, _)| fault.early == Some(*number));
-    if let Some(place) = place {
-        list[place..].rotate_right(1);
+    let place = |wanted: u8| list.iter().position(|(number, _)| *number == wanted);
+    if let Some((early, before)) = fault.early
+        && let (Some(from), Some(to)) = (place(early), place(before))
+    {
+        list[to..=from].rotate_right(1);
     }
     list
 }

@@ -1,14 +1,17 @@
-//! Walks over the records of a state area (request N3) that are faulty on purpose, each in one point.
+//! Walks over the records of a state area (request N3), and questions 9, that are faulty on purpose, each in one point.
 
 use crate::config::{Config, Kind, Owner};
 use crate::limits::SMALL_ROOM;
-use crate::state::{CLEARED, DESTROYED, EXISTING, NONE, State, first_bad, head_fits, holding, record_fits};
+use crate::state::{
+    CLEARED, DESTROYED, EXISTING, GREEN, NEVER_USED, NONE, State, first_bad, head_fits, holding, record_fits,
+    well_formed,
+};
 
 /// What is taken for the first record that breaks a rule.
 pub type Walk = fn(&Config, &State) -> usize;
 
 /// The walks, by what each does wrong.
-pub const WALKS: [(&str, Walk); 15] = [
+pub const WALKS: [(&str, Walk); 17] = [
     ("starts at record 2", |config, state| bad(config, state).find(|number| *number > 1).unwrap_or(0)),
     ("leaves the last record out", |config, state| kept(config, state, state.objects.len() - 1)),
     ("passes over absent records", |config, state| kept(config, state, config.objects.len())),
@@ -24,7 +27,62 @@ pub const WALKS: [(&str, Walk); 15] = [
     ("asks absent objects for their partition alone", |config, state| seen_as(config, state, absent_cleared)),
     ("asks absent objects for their contents alone", |config, state| seen_as(config, state, absent_in_none)),
     ("asks hardcoded descriptors for any value", |config, state| seen_as(config, state, right_if_hardcoded)),
+    ("takes unknown statuses for existing", |config, state| seen_as(config, state, |_, state| known(state, EXISTING))),
+    (NO_GREEN, |config, state| seen_as(config, state, |_, state| nothing_green(state))),
 ];
+
+/// The walk that names records in sound states too.
+pub const NO_GREEN: &str = "takes green zones for destroyed";
+
+/// What is taken for question 9.
+pub type Formed = fn(&Config, &State) -> bool;
+
+/// Questions 9 about green zones (request N5), by what each does wrong.
+pub const FORMED: [(&str, Formed); 8] = [
+    ("9 knows no status 3", |config, state| well_formed(config, state) && !state.status.contains(&GREEN)),
+    ("9 lets 3 stand at place 0", |config, state| formed_as(config, state, |state| cleared(state, GREEN))),
+    ("9 lets status 4 by", |config, state| formed_as(config, state, |state| taken(state, GREEN + 1, DESTROYED))),
+    ("9 takes status 4 for existing", |config, state| formed_as(config, state, |state| taken(state, GREEN + 1, GREEN))),
+    ("9 lets every status by", |config, state| formed_as(config, state, |state| known(state, DESTROYED))),
+    ("9 lets no driver be in a green zone", |config, state| no_green(config, state, &state.drivers)),
+    ("9 lets no device be in a green zone", |config, state| no_green(config, state, &state.devices)),
+    ("9 lets no object be in a green zone", |config, state| {
+        let places: Vec<u8> = state.objects.iter().map(|record| record.partition).collect();
+        no_green(config, state, &places)
+    }),
+];
+
+/// Question 9 about the state that this one is taken for.
+fn formed_as(config: &Config, state: &State, change: fn(&mut State)) -> bool {
+    let mut state = state.clone();
+    change(&mut state);
+    well_formed(config, &state)
+}
+
+fn no_green(config: &Config, state: &State, places: &[u8]) -> bool {
+    well_formed(config, state) && places.iter().all(|place| !state.is_green(*place))
+}
+
+/// Place 0 is seen as never used if it has this status.
+fn cleared(state: &mut State, status: u8) {
+    if state.status[0] == status {
+        state.status[0] = NEVER_USED;
+    }
+}
+
+/// One status is seen as another.
+fn taken(state: &mut State, from: u8, to: u8) {
+    state.status[1..].iter_mut().filter(|status| **status == from).for_each(|status| *status = to);
+}
+
+/// Statuses that there are not are seen as this one.
+fn known(state: &mut State, to: u8) {
+    state.status[1..].iter_mut().filter(|status| **status > GREEN).for_each(|status| *status = to);
+}
+
+fn nothing_green(state: &mut State) {
+    taken(state, GREEN, DESTROYED);
+}
 
 /// The records that break a rule.
 fn bad(config: &Config, state: &State) -> impl Iterator<Item = usize> {

@@ -4,7 +4,10 @@
 use super::rng::Rng;
 use crate::config::{Config, Kind, Owner};
 use crate::limits::{MAX_DEVICES, MAX_DRIVERS, MAX_PARTITION, RECORD_BYTES, area_bytes};
-use crate::state::{EXISTING, NONE, State, holding};
+use crate::state::{DESTROYED, EXISTING, GREEN, NEVER_USED, NONE, State, exists, holding};
+
+/// The least status that there is not.
+pub(super) const NO_STATUS: u8 = GREEN + 1;
 
 /// How many ways `broken_by` knows, and how many `broken_at`.
 const RULES: usize = 14;
@@ -38,8 +41,8 @@ fn broken_by(rng: &mut Rng, config: &Config, state: &mut State, rule: usize) {
     let object = rng.below(config.objects.len());
     let wrong = wrong_partition(rng, state);
     match rule {
-        0 => state.status[0] = rng.between(1, 3) as u8,
-        1 => state.status[rng.between(1, MAX_PARTITION)] = [3, 4, 255][rng.below(3)],
+        0 => state.status[0] = rng.between(1, usize::from(NO_STATUS)) as u8,
+        1 => state.status[rng.between(1, MAX_PARTITION)] = [NO_STATUS, 5, 255][rng.below(3)],
         2 => state.drivers[rng.below(config.drivers)] = wrong,
         3 => state.devices[rng.below(config.devices())] = wrong,
         4 => state.objects[object].partition = wrong,
@@ -61,9 +64,9 @@ fn broken_by(rng: &mut Rng, config: &Config, state: &mut State, rule: usize) {
         }
         12 => other_hardcoded_value(rng, config, state),
         13 => {
-            let used = zones(state, |status| status == EXISTING);
+            let used = zones(state, exists);
             let zone = rng.pick(&used).unwrap_or(1);
-            state.status[usize::from(zone)] = [0, 2, 3][rng.below(3)];
+            state.status[usize::from(zone)] = [NEVER_USED, DESTROYED, NO_STATUS][rng.below(3)];
         }
         _ => (),
     }
@@ -85,7 +88,7 @@ pub(super) fn zones(state: &State, asked: impl Fn(u8) -> bool) -> Vec<u8> {
 
 /// A partition byte that names no existing partition.
 pub(super) fn wrong_partition(rng: &mut Rng, state: &State) -> u8 {
-    let gone = zones(state, |status| status != EXISTING);
+    let gone = zones(state, |status| !exists(status));
     match rng.below(3) {
         0 => [64, 128, 255][rng.below(3)],
         _ => rng.pick(&gone).unwrap_or(64),
@@ -94,7 +97,7 @@ pub(super) fn wrong_partition(rng: &mut Rng, state: &State) -> u8 {
 
 /// 0 or an existing partition.
 fn some_partition(rng: &mut Rng, state: &State) -> u8 {
-    let mut some = zones(state, |status| status == EXISTING);
+    let mut some = zones(state, exists);
     some.push(NONE);
     rng.pick(&some).unwrap_or(NONE)
 }
@@ -118,7 +121,7 @@ fn descriptor(rng: &mut Rng, config: &Config, state: &mut State, change: impl Fn
 pub fn scrambled(rng: &mut Rng, config: &Config) -> State {
     let mut state = State::fresh(config);
     for _ in 0..rng.between(1, 5) {
-        state.status[rng.between(1, MAX_PARTITION)] = [1, 1, 1, 2][rng.below(4)];
+        state.status[rng.between(1, MAX_PARTITION)] = [EXISTING, EXISTING, GREEN, GREEN, DESTROYED][rng.below(5)];
     }
     let inactive = rng.below(30);
     let place = |rng: &mut Rng, state: &State| {

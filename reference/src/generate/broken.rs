@@ -178,8 +178,12 @@ fn break_hardcoded(rng: &mut Rng, config: &mut Config) {
     }
 }
 
+/// Codes that nobody knows, and those of before there were green zones (request N5).
+pub const NO_CODES: [usize; 5] = [0, 14, 15, 128, 65_535];
+pub const NO_CODES_OF_BEFORE: [usize; 5] = [0, 13, 14, 128, 65_535];
+
 /// A record that cannot be read, made from one that can (question 10).
-pub fn record(rng: &mut Rng, operation: &Operation) -> Vec<u8> {
+pub fn record(rng: &mut Rng, operation: &Operation, no_codes: [usize; 5]) -> Vec<u8> {
     let mut tokens = tokens::of_operation(operation);
     let whole = tokens::encode(&tokens);
     let place = rng.below(tokens.len());
@@ -188,7 +192,7 @@ pub fn record(rng: &mut Rng, operation: &Operation) -> Vec<u8> {
         1 => [whole, vec![rng.below(256) as u8]].concat(),
         2 => with_bad_number(rng, tokens, place),
         3 => {
-            tokens[0] = Token::Number([0, 13, 14, 128, 65_535][rng.below(5)]);
+            tokens[0] = Token::Number(no_codes[rng.below(5)]);
             tokens::encode(&tokens)
         }
         4 => with_bad_count(rng, operation, tokens),

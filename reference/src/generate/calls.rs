@@ -4,6 +4,8 @@
 use super::areas;
 use super::broken;
 use super::drills;
+use super::greens::greened;
+use super::likely::Scene;
 use super::records::{self, Want};
 use super::rings::ringed;
 use super::rng::Rng;
@@ -87,7 +89,8 @@ impl Calls {
             (self.world, self.drill) = (drill.world, drill.records.into());
         } else {
             let size = Size::any(&mut self.rng);
-            self.world = ringed(&mut self.rng, size);
+            let green = self.rng.percent(55);
+            self.world = if green { greened(&mut self.rng, size) } else { ringed(&mut self.rng, size) };
         }
         self.operations = self.drill.len() + self.rng.between(5, 70) + self.world.config.objects.len();
         let line = self.world.line.clone();
@@ -119,7 +122,8 @@ impl Calls {
         let mut state = load(&line).map_or(Vec::new(), |config| State::fresh(&config).to_bytes());
         state.resize([STATE_BYTES, STATE_BYTES_WIDE][self.rng.below(2)], 0);
         let function = [Function::LoadCheck, Function::Fresh, Function::Operate][self.rng.below(3)];
-        let record = Operation::Create { partition: self.rng.between(0, 64), green: false }.to_bytes();
+        let (partition, green) = (self.rng.between(0, 64), self.rng.percent(30));
+        let record = Operation::Create { partition, green }.to_bytes();
         Call { state, record, ..self.call(function, line) }
     }
 
@@ -160,7 +164,7 @@ impl Calls {
         let want = Want::any(&mut self.rng, &self.world);
         let record = records::record(&mut self.rng, &self.world, &state, want);
         let mut call = Call { function: Function::Operate, line, state: area, record, answer, carried: false };
-        match self.rng.weighted(&[80, 3, 3, 6, 8]) {
+        match self.rng.weighted(&[77, 3, 3, 6, 11]) {
             0 => call.carried = true,
             1 => call.state = self.wrong_length(&call.state),
             2 => {
@@ -170,12 +174,22 @@ impl Calls {
             3 => call.state = areas::broken(&mut self.rng, &self.world.config, &state),
             _ => {
                 let state = areas::scrambled(&mut self.rng, &self.world.config);
-                let refused = Want::Refused([18, 20, 21][self.rng.below(3)]);
-                let want = [Want::Accepted, refused, want][self.rng.weighted(&[20, 60, 20])];
                 call.state = state.to_bytes();
-                call.record = records::record(&mut self.rng, &self.world, &state, want);
+                call.record = self.beside(&state, want);
             }
         }
         call
+    }
+
+    /// A record for a state that no list of calls reaches: one in three is about green zones, whatever its answer is.
+    fn beside(&mut self, state: &State, want: Want) -> Vec<u8> {
+        if self.rng.percent(35) {
+            let number = [20, 22, 22][self.rng.below(3)];
+            let mut scene = Scene { rng: &mut self.rng, world: &self.world, state };
+            return scene.likely_refused(number).to_bytes();
+        }
+        let refused = Want::Refused([18, 19, 20, 21, 22][self.rng.below(5)]);
+        let want = [Want::Accepted, refused, want][self.rng.weighted(&[20, 60, 20])];
+        records::record(&mut self.rng, &self.world, state, want)
     }
 }

@@ -112,3 +112,66 @@ pub fn ring_corners() -> Vec<Folder> {
     let beside = [[2, 3, 3], [4, 2, 3]];
     rings.into_iter().map(l_with).chain(with_one).chain([l_with(&beside)]).map(over).collect()
 }
+
+/// The example of request N5 over L.
+const GREEN_OVER_L: [&[u8]; 18] = [
+    &[13, 1],
+    &[7, 1, 1],
+    &[8, 1, 1],
+    &[9, 1, 1, 5],
+    &[1, 1, 1, 2, 0, 3],
+    &[12, 1, 1, 5],
+    &[1, 1, 1, 2, 0, 4],
+    &[1, 1, 1, 2, 0, 2],
+    &[3, 1, 1, 2, 0],
+    &[3, 1, 1, 2, 2],
+    &[1, 1, 1, 2, 0, 0],
+    &[12, 1, 1, 5],
+    &[6, 1],
+    &[10, 1],
+    &[11, 1],
+    &[6, 1],
+    &[13, 1],
+    &[5, 1],
+];
+
+/// Records of code 13 that cannot be read or name no partition, the next code, which nobody knows, and the last
+/// partition.
+const BAD_GREEN: [&[u8]; 17] = [
+    &[13],
+    &[13, 0],
+    &[13, 64],
+    &[13, 70],
+    &[13, 127],
+    &[13, 1, 0],
+    &[13, 128],
+    &[13, 129, 0],
+    &[141, 0, 1],
+    &[13, 255, 255, 3],
+    &[13, 128, 128, 4],
+    &[14, 1],
+    &[14],
+    &[14, 1, 1],
+    &[13, 63],
+    &[13, 63],
+    &[5, 63],
+];
+
+/// The examples of request N5: over L, over a file without devices, whose object is held back in a green zone only, and
+/// over R, whose device has a ring; and bad records.
+pub fn green_corners() -> Vec<Folder> {
+    let stricter = |code: u8| -> Vec<u8> {
+        let records: [&[u8]; 6] =
+            [&[code, 1], &[7, 1, 1], &[9, 1, 1, 2], &[1, 1, 1, 1, 0, 1], &[12, 1, 1, 2], &[10, 1]];
+        session(&records)
+    };
+    let without_devices = row(&[1, 1, 0, 2, 1, 1, 1, 1, 3, 0, 0, 1, 2, 2, 0]);
+    let over_r: [&[u8]; 3] = [&[13, 1], &[9, 1, 1, 5], &[8, 1, 1]];
+    vec![
+        Folder { line: file_l(), session: session(&GREEN_OVER_L) },
+        Folder { line: without_devices.clone(), session: stricter(13) },
+        Folder { line: without_devices, session: stricter(5) },
+        Folder { line: l_with(&[[2, 3, 3]]), session: session(&over_r) },
+        Folder { line: file_l(), session: session(&BAD_GREEN) },
+    ]
+}

@@ -3,10 +3,12 @@
 use super::rng::Rng;
 use super::worlds::World;
 use crate::config::{Entry, Kind, Owner};
+use crate::green;
 use crate::limits::{MAX_COUNT, MAX_PARTITION};
 use crate::operation::{Actor, Copying, Item, Operation, Put};
-use crate::state::{EXISTING, NEVER_USED, NONE, State};
+use crate::state::{NEVER_USED, NONE, State, exists};
 use crate::trace;
+use std::collections::BTreeSet;
 
 /// What the proposals look at.
 pub struct Scene<'a> {
@@ -39,14 +41,19 @@ impl Scene<'_> {
     /// What the plan still asks for: partitions to create, and drivers, devices and external objects to bring in.
     fn setup(&mut self) -> Vec<Operation> {
         let status = |zone: usize| self.state.status[zone];
-        let unused = self.world.zones.iter().copied().filter(|zone| status(*zone) == NEVER_USED);
-        let mut list: Vec<Operation> = unused.map(|partition| Operation::Create { partition, green: false }).collect();
+        let planned: BTreeSet<usize> = self.world.greens.iter().copied().collect();
+        let others = planned.iter().copied().filter(|zone| !self.world.zones.contains(zone));
+        let unused = self.world.zones.iter().copied().chain(others).filter(|zone| status(*zone) == NEVER_USED);
+        let created = |partition: usize| Operation::Create { partition, green: planned.contains(&partition) };
+        let mut list: Vec<Operation> = unused.map(created).collect();
         list.extend(self.absent(&self.world.drivers, &self.state.drivers, Actor::Driver));
-        list.extend(self.absent(&self.world.devices, &self.state.devices, Actor::Device));
+        let mut devices = self.absent(&self.world.devices, &self.state.devices, Actor::Device);
+        devices.retain(|operation| !self.is_ring_into_green(operation));
+        list.extend(devices);
         for zone in &self.world.zones {
             let here = |object: &usize| self.world.objects[*object - 1] == *zone && self.state.object(*object) == NONE;
             let objects: Vec<usize> = self.world.config.owned_by(Owner::External).into_iter().filter(here).collect();
-            if status(*zone) == EXISTING && !objects.is_empty() {
+            if exists(status(*zone)) && !objects.is_empty() {
                 let objects = self.rng.some(&objects, MAX_COUNT);
                 list.push(Operation::ActivateExternal { partition: *zone, objects });
             }
@@ -58,13 +65,14 @@ impl Scene<'_> {
     /// Activations of the inactive drivers, or devices, whose planned partition exists.
     fn absent(&self, homes: &[usize], places: &[u8], who: fn(usize) -> Actor) -> Vec<Operation> {
         let both = homes.iter().zip(places).enumerate();
-        both.filter(|(_, (home, place))| self.state.status[**home] == EXISTING && **place == NONE)
+        both.filter(|(_, (home, place))| exists(self.state.status[**home]) && **place == NONE)
             .map(|(number, (home, _))| Operation::Activate { actor: who(number + 1), partition: *home })
             .collect()
     }
 
     fn create(&mut self) -> Operation {
-        Operation::Create { partition: self.rng.between(1, MAX_PARTITION), green: false }
+        let partition = self.rng.between(1, MAX_PARTITION);
+        Operation::Create { partition, green: self.perhaps_green() }
     }
 
     /// How many parts a record gets: mostly few.
@@ -94,8 +102,9 @@ impl Scene<'_> {
     pub fn driver_write(&mut self) -> Option<Operation> {
         let driver = self.active_driver()?;
         let here = self.objects_in(self.state.driver(driver));
-        let heads: Vec<(usize, usize)> =
-            self.world.heads.iter().copied().filter(|(head, _)| here.contains(head)).collect();
+        // Chains of writes are for zones that are not green.
+        let leads = |head: usize| here.contains(&head) && !self.state.is_green(self.state.object(head));
+        let heads: Vec<(usize, usize)> = self.world.heads.iter().copied().filter(|(head, _)| leads(*head)).collect();
         let count = self.count();
         let mut items: Vec<Item> = Vec::new();
         if let Some((object, value)) = self.rng.pick(&heads).filter(|_| self.rng.percent(50)) {
@@ -120,12 +129,17 @@ impl Scene<'_> {
         self.rng.pick(&plain)
     }
 
-    /// What suits an object: a value whose entries lie in its partition, value 0, a chain's first value, or any.
+    /// What suits an object: a value whose entries lie in its partition, or keep the rule of its green zone, value 0,
+    /// or any.
     pub fn put(&mut self, object: usize) -> Put {
         if self.world.config.kind(object) != Kind::Transfer {
             return Put::Raw(self.rng.contents());
         }
-        let inside = |entry: &Entry| self.state.object(entry.object) == self.state.object(object);
+        let zone = self.state.object(object);
+        let inside = |entry: &Entry| match self.state.is_green(zone) {
+            true => green::is_green_entry(&self.world.config, self.state, zone, entry),
+            false => self.state.object(entry.object) == zone,
+        };
         let values = self.world.config.values.len();
         let fits = |value: &usize| {
             let entries = self.world.config.value(*value);
@@ -218,7 +232,7 @@ impl Scene<'_> {
     }
 
     fn destroy(&mut self) -> Option<Operation> {
-        let existing: Vec<usize> = (1..=MAX_PARTITION).filter(|p| self.state.status[*p] == EXISTING).collect();
+        let existing: Vec<usize> = (1..=MAX_PARTITION).filter(|p| exists(self.state.status[*p])).collect();
         self.rng.pick(&existing).map(|partition| Operation::Destroy { partition })
     }
 }

@@ -7,6 +7,7 @@ pub mod calls;
 pub mod corners;
 pub mod damaged;
 pub mod drills;
+pub mod greens;
 pub mod lengths;
 pub mod likely;
 pub mod memories;
@@ -21,6 +22,7 @@ pub mod stored;
 pub mod worlds;
 
 pub use calls::{Call, Calls, Function};
+pub use greens::greened;
 pub use records::Want;
 pub use rewrites::Rewrite;
 pub use rings::ringed;

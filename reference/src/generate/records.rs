@@ -6,7 +6,8 @@ use super::likely::Scene;
 use super::rng::Rng;
 use super::worlds::World;
 use crate::closure::closure;
-use crate::gate::judge;
+use crate::gate::{Judgement, judge};
+use crate::operation;
 use crate::state::State;
 
 /// How often a proposal is made anew when it does not get the number that is wanted.
@@ -15,6 +16,9 @@ const TRIES: usize = 12;
 /// The refusals that a record can get; those that need a search stand here more than once. The last ones need a ring.
 const REFUSALS: [u8; 17] = [10, 11, 12, 13, 14, 15, 16, 17, 18, 18, 19, 19, 19, 20, 20, 21, 21];
 const WITHOUT_RING: usize = 15;
+/// Those over a world with green zones.
+const GREEN_REFUSALS: [u8; 22] =
+    [10, 11, 12, 13, 14, 14, 15, 16, 17, 18, 18, 19, 19, 19, 20, 20, 20, 21, 21, 22, 22, 22];
 
 /// What a record is to be.
 #[derive(Clone, Copy, Debug, PartialEq, Eq)]
@@ -27,13 +31,24 @@ pub enum Want {
 impl Want {
     /// 60 in 100 accepted, 28 refused by a number, 12 random.
     pub fn any(rng: &mut Rng, world: &World) -> Want {
-        let refusals = if world.config.has_rings() { &REFUSALS[..] } else { &REFUSALS[..WITHOUT_RING] };
+        let refusals = match world.config.has_rings() {
+            _ if !world.greens.is_empty() => &GREEN_REFUSALS[..],
+            true => &REFUSALS[..],
+            false => &REFUSALS[..WITHOUT_RING],
+        };
         match rng.weighted(&[60, 28, 12]) {
             0 => Want::Accepted,
             1 => Want::Refused(refusals[rng.below(refusals.len())]),
             _ => Want::Random,
         }
     }
+}
+
+/// The judgement by which a world's records are chosen. Over a world without green zones code 13 is no code, as it was
+/// when the first sessions were stored: these are to stay as they are.
+pub fn judgement(world: &World, state: &State, record: &[u8]) -> Judgement {
+    let is_green = || operation::read(record).is_some_and(|operation| operation.code() == 13);
+    if world.greens.is_empty() && is_green() { Err(10) } else { judge(closure, &world.config, state, record) }
 }
 
 /// A record for this state.
@@ -46,7 +61,7 @@ pub fn record(rng: &mut Rng, world: &World, state: &State, want: Want) -> Vec<u8
     let mut proposal = Vec::new();
     for _ in 0..TRIES {
         proposal = proposed(rng, world, state, wanted);
-        let number = judge(closure, &world.config, state, &proposal).err().unwrap_or(0);
+        let number = judgement(world, state, &proposal).err().unwrap_or(0);
         if number == wanted {
             break;
         }
@@ -60,7 +75,8 @@ fn proposed(rng: &mut Rng, world: &World, state: &State, wanted: u8) -> Vec<u8> 
         0 => scene.likely().to_bytes(),
         10 => {
             let operation = if scene.rng.percent(60) { scene.likely() } else { scene.anything() };
-            broken::record(scene.rng, &operation)
+            let codes = if world.greens.is_empty() { broken::NO_CODES_OF_BEFORE } else { broken::NO_CODES };
+            broken::record(scene.rng, &operation, codes)
         }
         _ => scene.likely_refused(wanted).to_bytes(),
     }

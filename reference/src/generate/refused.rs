@@ -5,10 +5,10 @@ use super::names::{Name, names};
 use crate::closure::{closure, entries};
 use crate::config::{Entry, Kind, Owner};
 use crate::operation::{Actor, Copying, Item, Operation, Put};
-use crate::state::{EXISTING, NONE};
+use crate::state::{NONE, exists};
 
 impl Scene<'_> {
-    /// An operation that question `number`, 11 to 21, is likely to refuse.
+    /// An operation that question `number`, 11 to 22, is likely to refuse.
     pub fn likely_refused(&mut self, number: u8) -> Operation {
         match number {
             11 => self.with_unknown_name(),
@@ -21,7 +21,8 @@ impl Scene<'_> {
             18 => self.undescribed(),
             19 => self.crossing(),
             20 => self.leaving(),
-            _ => self.entering(),
+            21 => self.entering(),
+            _ => self.against_green_rule(),
         }
     }
 
@@ -45,7 +46,7 @@ impl Scene<'_> {
                 self.raw_items(Operation::Write { actor, items })
             }
             1 => Operation::Read { actor, pairs: vec![Copying { source: 1, destination: 0 }; count] },
-            2 => Operation::Create { partition: 1, green: false },
+            2 => Operation::Create { partition: 1, green: self.perhaps_green() },
             3 => Operation::Destroy { partition: 1 },
             4 => Operation::Activate { actor, partition: 1 },
             5 => Operation::ActivateExternal { partition: 1, objects: vec![1; count] },
@@ -131,8 +132,8 @@ impl Scene<'_> {
         self.change(operation, &[Name::Object, Name::Destination], false)
     }
 
-    fn existing(&mut self) -> usize {
-        let zones: Vec<usize> = (1..=63).filter(|zone| self.state.status[*zone] == EXISTING).collect();
+    pub(super) fn existing(&mut self) -> usize {
+        let zones: Vec<usize> = (1..=63).filter(|zone| exists(self.state.status[*zone])).collect();
         self.rng.pick(&zones).unwrap_or_else(|| self.rng.between(1, 63))
     }
 
@@ -140,9 +141,9 @@ impl Scene<'_> {
     fn with_wrong_partition(&mut self) -> Operation {
         let used: Vec<usize> = (1..=63).filter(|zone| self.state.status[*zone] != 0).collect();
         if let Some(partition) = self.rng.pick(&used).filter(|_| self.rng.percent(40)) {
-            return Operation::Create { partition, green: false };
+            return Operation::Create { partition, green: self.perhaps_green() };
         }
-        let gone: Vec<usize> = (1..=63).filter(|zone| self.state.status[*zone] != EXISTING).collect();
+        let gone: Vec<usize> = (1..=63).filter(|zone| !exists(self.state.status[*zone])).collect();
         let mut operation = if self.rng.percent(60) { self.likely() } else { self.anything() };
         for (name, number) in names(&mut operation) {
             if name == Name::Partition {
@@ -254,6 +255,9 @@ impl Scene<'_> {
 
     /// A deactivation of something that an active device can reach, if there is any.
     fn leaving(&mut self) -> Operation {
+        if let Some(object) = self.named_in_green() {
+            return self.deactivation_of(object);
+        }
         let found = closure(&self.world.config, self.state);
         let owner = |object: usize| self.world.config.object(object).owner;
         let reached: Vec<usize> = entries(&self.world.config, &found)

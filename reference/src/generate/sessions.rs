@@ -1,12 +1,11 @@
 //! Sessions of the office program: records behind their lengths, carried on from the fresh state, with cut endings.
 
 use super::broken;
+use super::greens::greened;
 use super::records::{self, Want};
 use super::rings::ringed;
 use super::rng::Rng;
 use super::worlds::{Size, World, world};
-use crate::closure::closure;
-use crate::gate::judge;
 use crate::state::State;
 use crate::varint;
 
@@ -28,8 +27,15 @@ pub enum End {
 /// What breaks a world's file for a question.
 type Breaking = fn(&mut Rng, &World, u8) -> Vec<u8>;
 
-/// A folder of this size with about `records` records; `focus` is a number to see often. Some lines have rings.
+/// A folder of this size with about `records` records; `focus` is a number to see often. Some lines have rings, and all
+/// sessions green zones.
 pub fn folder(rng: &mut Rng, size: Size, records: usize, focus: Option<u8>) -> Folder {
+    let world = greened(rng, size);
+    folder_over(rng, &world, records, focus, broken::line)
+}
+
+/// The same without green zones, as it was before there were any.
+pub fn folder_with_rings(rng: &mut Rng, size: Size, records: usize, focus: Option<u8>) -> Folder {
     let world = ringed(rng, size);
     folder_over(rng, &world, records, focus, broken::line)
 }
@@ -56,11 +62,11 @@ pub fn session(rng: &mut Rng, world: &World, records: usize, focus: Option<u8>, 
     let mut out = Vec::new();
     for place in 0..records {
         let want = match focus {
-            Some(number @ 10..=21) if place * 2 > records && rng.percent(30) => Want::Refused(number),
+            Some(number @ 10..=22) if place * 2 > records && rng.percent(30) => Want::Refused(number),
             _ => Want::any(rng, world),
         };
         let record = records::record(rng, world, &state, want);
-        if let Ok((next, _)) = judge(closure, &world.config, &state, &record) {
+        if let Ok((next, _)) = records::judgement(world, &state, &record) {
             state = next;
         }
         varint::write(record.len(), &mut out);

@@ -2,10 +2,10 @@
 //! length (two bytes each, lowest first), the line's bytes, the session's bytes. The output expected is, for each case,
 //! the report and a line with a dot.
 
-use super::corners::{corners, file_l, ring_corners};
-use super::drills;
+use super::corners::{corners, file_l, green_corners, ring_corners};
+use super::drills::{self, Point};
 use super::rng::Rng;
-use super::sessions::{Folder, folder, folder_of_before};
+use super::sessions::{Folder, folder, folder_of_before, folder_with_rings};
 use super::worlds::Size;
 use crate::config::load;
 use crate::limits::{LINE_LIMIT, SESSION_LIMIT};
@@ -25,7 +25,7 @@ pub struct Stored {
 pub struct Tally {
     pub cases: usize,
     /// Refused files and rows, by number.
-    pub numbers: [usize; 22],
+    pub numbers: [usize; 23],
     pub cut: usize,
     pub long: usize,
     pub silent: usize,
@@ -34,8 +34,8 @@ pub struct Tally {
 /// The most bytes of input: what the program that is given the stored cases takes in, 160 KiB.
 pub const MOST_INPUT: usize = 163_840;
 
-/// What a session can show: files refused by 1 to 6, rows 0 and 10 to 21.
-pub const SHOWN: [usize; 19] = [0, 1, 2, 3, 4, 5, 6, 10, 11, 12, 13, 14, 15, 16, 17, 18, 19, 20, 21];
+/// What a session can show: files refused by 1 to 6, rows 0 and 10 to 22.
+pub const SHOWN: [usize; 20] = [0, 1, 2, 3, 4, 5, 6, 10, 11, 12, 13, 14, 15, 16, 17, 18, 19, 20, 21, 22];
 /// How many of them a session shows over a line without rings.
 const SHOWN_WITHOUT_RING: usize = 18;
 
@@ -69,6 +69,12 @@ impl fmt::Display for Tally {
 }
 
 impl Stored {
+    fn push_drills(&mut self, seed: u64, points: &[(Point, usize)]) {
+        for (point, _) in points {
+            drills::stored(seed, *point).iter().for_each(|drill| self.push(&drill.folder()));
+        }
+    }
+
     pub fn push(&mut self, folder: &Folder) {
         let length = |bytes: &[u8]| (bytes.len() as u16).to_le_bytes();
         self.input.extend(length(&folder.line));
@@ -95,15 +101,38 @@ pub fn cases(mut input: &[u8]) -> Option<Vec<Folder>> {
     Some(list)
 }
 
-/// Cases as in `stored`, and behind them the drills, then cases of devices with rings.
+/// Cases as in `stored`, and behind them the drills, then cases of devices with rings, then those of green zones.
 pub fn with_drills(seed: u64, count: usize, bytes: usize) -> Stored {
     let mut stored = stored(seed, count, bytes);
-    for (point, _) in drills::POINTS {
-        drills::stored(seed, point).iter().for_each(|drill| stored.push(&drill.folder()));
-    }
+    let (points, green_points) = drills::POINTS.split_at(drills::BEFORE_GREENS);
+    stored.push_drills(seed, points);
     ring_corners().iter().for_each(|folder| stored.push(folder));
     (0..RING_CASES).for_each(|case| stored.push(&ring_folder(seed, case)));
+    stored.push_drills(seed, green_points);
+    green_corners().iter().for_each(|folder| stored.push(folder));
+    (0..GREEN_CASES).for_each(|case| stored.push(&green_folder(seed, case)));
     stored
+}
+
+/// How many generated cases have green zones, where their random source begins, and how long they are at most.
+pub const GREEN_CASES: usize = 12;
+const GREEN_PART: usize = 200_000;
+const GREEN_BYTES: usize = 500;
+
+/// A generated case in which something is refused by 22.
+fn green_folder(seed: u64, case: usize) -> Folder {
+    let mut rng = Rng::part(seed, (GREEN_PART + case) as u64);
+    loop {
+        let size = [Size::Tiny, Size::Small, Size::Medium][rng.weighted(&[20, 65, 15])];
+        let records = rng.between(20, 40);
+        let focus = [20, 22][case % 2];
+        let folder = folder(&mut rng, size, records, Some(focus));
+        let text = report(&folder.line, &folder.session);
+        let is_met = String::from_utf8_lossy(&text).lines().any(|row| row.ends_with(" 22"));
+        if is_met && folder.line.len() + folder.session.len() <= GREEN_BYTES {
+            return folder;
+        }
+    }
 }
 
 /// How many generated cases have devices with rings, where their random source begins, and how long they are at most.
@@ -118,7 +147,7 @@ fn ring_folder(seed: u64, case: usize) -> Folder {
     loop {
         let size = [Size::Tiny, Size::Small, Size::Medium][rng.weighted(&[20, 65, 15])];
         let records = if focus == 6 { 3 } else { rng.between(20, 40) };
-        let folder = folder(&mut rng, size, records, Some(focus));
+        let folder = folder_with_rings(&mut rng, size, records, Some(focus));
         let fits = match load(&folder.line) {
             Ok(config) => focus != 6 && config.has_rings(),
             Err(number) => number == focus,

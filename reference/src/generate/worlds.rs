@@ -44,6 +44,8 @@ pub struct World {
     pub line: Vec<u8>,
     /// The partitions planned.
     pub zones: Vec<usize>,
+    /// Those of them that are to be green (request N5), or another; none in worlds from before there were any.
+    pub greens: Vec<usize>,
     /// The planned partition of each driver, device and object; 0 is none.
     pub drivers: Vec<usize>,
     pub devices: Vec<usize>,
@@ -75,6 +77,7 @@ pub fn world(rng: &mut Rng, size: Size) -> World {
         config,
         line: Vec::new(),
         zones,
+        greens: Vec::new(),
         drivers: driver_homes,
         devices: device_homes,
         objects: Vec::new(),

@@ -61,6 +61,7 @@ impl Book {
             1 | 2 => self.write(record),
             3 | 4 => self.copy(record),
             5 => self.standings[first] = 1,
+            13 => self.standings[first] = 3,
             6 => self.standings[first] = 2,
             7 => self.move_driver(first, record[2], true),
             8 => self.move_card(first, record[2], true),

@@ -3,13 +3,10 @@
 
 use super::{Damaged, stray};
 use crate::config::{Config, Owner};
-use crate::generate::areas::{wrong_partition, zones};
+use crate::generate::areas::{NO_STATUS, wrong_partition, zones};
 use crate::generate::rng::Rng;
 use crate::limits::{MAX_DEVICES, MAX_DRIVERS};
-use crate::state::{DESTROYED, EXISTING, NEVER_USED, NONE, State};
-
-/// The least status that there is not.
-const NO_STATUS: u8 = DESTROYED + 1;
+use crate::state::{DESTROYED, GREEN, NEVER_USED, NONE, State, exists};
 
 /// The state with a change in its head alone, no record broken.
 fn alone_by(name: &str, sound: &State, change: impl FnOnce(&mut State)) -> Damaged {
@@ -28,9 +25,9 @@ pub fn alone(rng: &mut Rng, config: &Config, sound: &State) -> Vec<Damaged> {
     let first = rng.between(1, usize::from(NO_STATUS)) as u8;
     let mut out = vec![alone_by("status 0", sound, |state| state.status[0] = first)];
     let (status, byte) = (no_status(rng), stray(rng, sound));
-    let empty = zones(sound, |status| status != EXISTING);
+    let empty = zones(sound, |status| !exists(status));
     if let Some(zone) = rng.pick(&empty) {
-        out.push(alone_by("a status above 2", sound, |state| state.status[usize::from(zone)] = status));
+        out.push(alone_by("a status above 3", sound, |state| state.status[usize::from(zone)] = status));
     }
     let drivers = (1..=config.drivers).filter(|driver| config.owned_by(Owner::Driver(*driver)).is_empty());
     let idle: Vec<usize> = drivers.collect();
@@ -69,7 +66,7 @@ fn lost_partitions(rng: &mut Rng, config: &Config, sound: &State) -> Vec<Damaged
     let mut out = Vec::new();
     let inside = |zone: u8| (1..=config.objects.len()).find(|object| sound.object(*object) == zone);
     for (name, status) in [("destroyed", DESTROYED), ("never used", NEVER_USED), ("with no status", no_status(rng))] {
-        let mut used = zones(sound, |status| status == EXISTING);
+        let mut used = zones(sound, exists);
         used.retain(|zone| inside(*zone).is_some());
         let Some(zone) = rng.pick(&used) else { return out };
         let mut state = sound.clone();
@@ -79,7 +76,7 @@ fn lost_partitions(rng: &mut Rng, config: &Config, sound: &State) -> Vec<Damaged
             name: format!("objects in a partition {name}"),
             state,
             place: inside(zone).unwrap_or(0),
-            head_fits: status <= DESTROYED && !owners,
+            head_fits: status <= GREEN && !owners,
         });
     }
     out
@@ -89,7 +86,7 @@ fn lost_partitions(rng: &mut Rng, config: &Config, sound: &State) -> Vec<Damaged
 /// in the last way together with its objects.
 fn moved_owner(rng: &mut Rng, config: &Config, sound: &State, name: &str, owner: Owner) -> Vec<Damaged> {
     let home = sound.owner(owner).unwrap_or(NONE);
-    let mut existing = zones(sound, |status| status == EXISTING);
+    let mut existing = zones(sound, exists);
     existing.retain(|zone| *zone != home);
     let wrong = Some(wrong_partition(rng, sound));
     let ways = [

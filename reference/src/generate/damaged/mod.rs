@@ -8,7 +8,7 @@ mod records;
 use super::areas::{scrambled, zones};
 use super::rng::Rng;
 use crate::config::Config;
-use crate::state::{DESTROYED, EXISTING, NEVER_USED, State};
+use crate::state::{DESTROYED, EXISTING, GREEN, NEVER_USED, State, exists};
 use crate::tokens;
 
 /// A state, and what has to be found in it.
@@ -64,10 +64,11 @@ fn exchanged(config: &Config, one: usize, other: usize) -> Config {
     config
 }
 
-/// A well formed state that can be broken in many ways: a partition is destroyed, and one exists with nothing in it.
+/// A well formed state that can be broken in many ways: a partition is destroyed, and two exist, one of them green,
+/// with nothing in them.
 pub fn sound(rng: &mut Rng, config: &Config) -> State {
     let mut state = scrambled(rng, config);
-    for status in [DESTROYED, EXISTING] {
+    for status in [DESTROYED, EXISTING, GREEN] {
         let unused = zones(&state, |status| status == NEVER_USED);
         if let Some(zone) = rng.pick(&unused) {
             state.status[usize::from(zone)] = status;
@@ -113,7 +114,7 @@ fn with_record(name: &str, one: &Damaged, other: &Damaged) -> Damaged {
 
 /// A byte other than 0, often one that names an existing partition.
 fn stray(rng: &mut Rng, state: &State) -> u8 {
-    let existing = zones(state, |status| status == EXISTING);
+    let existing = zones(state, exists);
     let any = rng.between(1, usize::from(u8::MAX)) as u8;
     if rng.percent(50) { rng.pick(&existing).unwrap_or(any) } else { any }
 }

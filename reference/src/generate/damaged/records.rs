@@ -6,7 +6,7 @@ use crate::config::{Config, Kind};
 use crate::generate::areas::zones;
 use crate::generate::rng::Rng;
 use crate::limits::{CONTENT_BYTES, MAX_PARTITION};
-use crate::state::{Contents, DESTROYED, EXISTING, NEVER_USED, NONE, Record, State, holding};
+use crate::state::{Contents, DESTROYED, NEVER_USED, NONE, Record, State, exists, holding};
 use std::collections::BTreeSet;
 
 const MOST: usize = u8::MAX as usize;
@@ -17,8 +17,12 @@ type Breach = fn(&mut Rng, &Config, &State, usize) -> Option<Record>;
 /// The rules of an object's record, by how they are broken.
 const PRESENT: [(&str, Breach); 9] = [
     ("a partition above 63", above_63),
-    ("a partition never used", |rng, _, state, number| moved_to_any(rng, state, number, NEVER_USED, NONE)),
-    ("a destroyed partition", |rng, _, state, number| moved_to_any(rng, state, number, DESTROYED, NONE)),
+    ("a partition never used", |rng, _, state, number| {
+        moved_to_any(rng, state, number, |status| status == NEVER_USED, NONE)
+    }),
+    ("a destroyed partition", |rng, _, state, number| {
+        moved_to_any(rng, state, number, |status| status == DESTROYED, NONE)
+    }),
     ("another partition than the owner's", elsewhere),
     ("no partition, and the owner is active", left_behind),
     ("a value above K", above_k),
@@ -64,9 +68,9 @@ fn moved(state: &State, number: usize, partition: u8) -> Option<Record> {
     Some(Record { partition, ..state.objects[number - 1] })
 }
 
-/// Moved into a partition of this status that is not the one where it has to be.
-fn moved_to_any(rng: &mut Rng, state: &State, number: usize, status: u8, home: u8) -> Option<Record> {
-    let mut others = zones(state, |known| known == status);
+/// Moved into a partition of a status that is asked for, other than the one where it has to be.
+fn moved_to_any(rng: &mut Rng, state: &State, number: usize, asked: fn(u8) -> bool, home: u8) -> Option<Record> {
+    let mut others = zones(state, asked);
     others.retain(|zone| *zone != home);
     rng.pick(&others).and_then(|zone| moved(state, number, zone))
 }
@@ -77,7 +81,7 @@ fn above_63(rng: &mut Rng, _: &Config, state: &State, number: usize) -> Option<R
 
 fn elsewhere(rng: &mut Rng, config: &Config, state: &State, number: usize) -> Option<Record> {
     let home = state.owner(config.object(number).owner)?;
-    moved_to_any(rng, state, number, EXISTING, home)
+    moved_to_any(rng, state, number, exists, home)
 }
 
 fn left_behind(_: &mut Rng, config: &Config, state: &State, number: usize) -> Option<Record> {

@@ -2,7 +2,9 @@
 //! these points too rarely; `coverage` counts how often the stored cases do.
 
 mod choices;
+mod colours;
 mod copies;
+mod greens;
 mod ladders;
 mod leaving;
 pub mod numbers;
@@ -45,10 +47,18 @@ pub enum Point {
     RingOfSix,
     RingReturns,
     NoRing,
+    GreenClauses,
+    GreenLeaving,
+    GreenEscape,
+    GreenReading,
+    GreenRings,
+    GreenUnread,
+    GreenStandings,
+    GreenWide,
 }
 
 /// All points, and how many drills of each are stored. Those stored first keep their places when others are added.
-pub const POINTS: [(Point, usize); 23] = [
+pub const POINTS: [(Point, usize); 31] = [
     (Point::CrossingByWrite, 8),
     (Point::CrossingByCopy, 4),
     (Point::LeavingByChain, 8),
@@ -72,10 +82,19 @@ pub const POINTS: [(Point, usize); 23] = [
     (Point::RingOfSix, 3),
     (Point::RingReturns, 3),
     (Point::NoRing, 1),
+    (Point::GreenClauses, 7),
+    (Point::GreenLeaving, 8),
+    (Point::GreenEscape, 3),
+    (Point::GreenReading, 3),
+    (Point::GreenRings, 5),
+    (Point::GreenUnread, 2),
+    (Point::GreenStandings, 5),
+    (Point::GreenWide, 1),
 ];
 
-/// The points of devices with rings come last.
+/// Where the points of devices with rings begin, and behind them those of green zones.
 const BEFORE_RINGS: usize = 15;
+pub const BEFORE_GREENS: usize = 23;
 
 /// A drill for a point; `turn` goes through the point's ways.
 fn drill(rng: &mut Rng, point: Point, turn: usize) -> Drill {
@@ -106,6 +125,14 @@ fn drill(rng: &mut Rng, point: Point, turn: usize) -> Drill {
         Point::RingOfSix => rings::of_six(rng),
         Point::RingReturns => rings::returning(rng),
         Point::NoRing => rings::none(rng),
+        Point::GreenClauses => greens::clauses(rng, 0),
+        Point::GreenLeaving => greens::leaving(rng, turn, turn % 4 != 3),
+        Point::GreenEscape => greens::escaping(rng, turn),
+        Point::GreenReading => greens::reading(rng, 2 + turn % 4),
+        Point::GreenRings => colours::rings(rng, turn),
+        Point::GreenUnread => colours::unread_ring(rng, !inside),
+        Point::GreenStandings => colours::standings(rng),
+        Point::GreenWide => greens::clauses(rng, MAX_ONE_BYTE),
     }
 }
 
@@ -157,7 +184,12 @@ pub fn any(rng: &mut Rng) -> Drill {
 
 /// Any drill with a ring, or with a device that could have one.
 pub fn any_ring(rng: &mut Rng) -> Drill {
-    any_of(rng, &POINTS[BEFORE_RINGS..])
+    any_of(rng, &POINTS[BEFORE_RINGS..BEFORE_GREENS])
+}
+
+/// Any drill with a green zone.
+pub fn any_green(rng: &mut Rng) -> Drill {
+    any_of(rng, &POINTS[BEFORE_GREENS..])
 }
 
 fn any_of(rng: &mut Rng, points: &[(Point, usize)]) -> Drill {

@@ -74,6 +74,7 @@ impl Numbers {
             line: tokens::encode(&tokens::of_config(&config)),
             config,
             zones: homes(&old.zones),
+            greens: homes(&old.greens),
             drivers: moved(&self.drivers, &homes(&old.drivers)),
             devices: moved(&self.devices, &homes(&old.devices)),
             objects: moved(&self.objects, &homes(&old.objects)),

@@ -44,6 +44,7 @@ impl Script<'_> {
             config: Config::default(),
             line: Vec::new(),
             zones: Vec::new(),
+            greens: Vec::new(),
             drivers: Vec::new(),
             devices: Vec::new(),
             objects: Vec::new(),
@@ -59,6 +60,13 @@ impl Script<'_> {
         let driver = self.driver(partition);
         let (device, head) = self.device(partition);
         Zone { partition, driver, device, head }
+    }
+
+    /// A green zone of its own.
+    pub fn green_zone(&mut self) -> Zone {
+        let zone = self.zone();
+        self.world.greens.push(zone.partition);
+        zone
     }
 
     pub fn driver(&mut self, partition: usize) -> usize {
@@ -157,10 +165,12 @@ impl Script<'_> {
         self.operations.extend(inside);
     }
 
-    /// Creates all partitions.
+    /// Creates all partitions, green or not as they are planned.
     pub fn create(&mut self) {
+        let green = |partition: &usize| self.world.greens.contains(partition);
         let zones = self.world.zones.iter();
-        self.operations.extend(zones.map(|partition| Operation::Create { partition: *partition, green: false }));
+        let all = zones.map(|partition| Operation::Create { partition: *partition, green: green(partition) });
+        self.operations.extend(all);
     }
 
     /// What brings in all that is not meant to be in none.
