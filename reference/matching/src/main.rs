@@ -1,13 +1,15 @@
 //! Compares the proved library with the second implementation over generated calls: the answer, all state bytes and all
 //! answer bytes after every call. The file of every session is rewritten besides (`rewrites`), every file is asked for
 //! the length of its state area (`lengths`), and every area for its first bad record (`walks`). Ends with 1 at the
-//! first difference, or if some number or kind of answer never occurs.
+//! first difference, or if some number or kind of answer, or some code (`codes`), never occurs.
 
+mod codes;
 mod lengths;
 mod library;
 mod rewrites;
 mod walks;
 
+use codes::Codes;
 use lengths::Lengths;
 use library::Result as Outcome;
 use reference::generate::{Call, Calls, Function};
@@ -19,8 +21,8 @@ use walks::Walks;
 
 const USAGE: &str = "usage: matching [--calls N] [--seed S]";
 
-/// The numbers that a call can answer: 0 to 21.
-const NUMBERS: usize = 22;
+/// The numbers that a call can answer: 0 to 22.
+const NUMBERS: usize = 23;
 
 fn main() -> ExitCode {
     match options() {
@@ -55,6 +57,7 @@ fn compare(calls: u64, seed: u64) -> ExitCode {
         lengths: Lengths::new(),
         walks: Walks::new(seed),
         seen: [0; NUMBERS],
+        codes: Codes::default(),
     };
     let all_agree = comparison.lengths.agree_on_all(seed, &mut comparison.walks)
         && (1..=calls).all(|place| comparison.agrees_on_next(place));
@@ -79,6 +82,7 @@ struct Comparison {
     walks: Walks,
     /// How often each number was answered.
     seen: [u64; NUMBERS],
+    codes: Codes,
 }
 
 impl Comparison {
@@ -94,6 +98,7 @@ impl Comparison {
             return false;
         };
         self.lengths.count(&call, here.number);
+        self.codes.count(&call, here.number);
         if let Some(count) = self.seen.get_mut(here.number as usize) {
             *count += 1;
         }
@@ -111,6 +116,7 @@ impl Comparison {
     fn print(&self, calls: u64) {
         println!("seed {}: {} sessions, {calls} calls", self.seed, self.stream.sessions);
         self.seen.iter().enumerate().for_each(|(number, count)| println!("{number:>3} {count}"));
+        self.codes.print();
         self.rewrites.print();
         self.lengths.print();
         self.walks.print();
@@ -120,7 +126,12 @@ impl Comparison {
     /// What never occurred.
     fn absent(&self) -> Vec<String> {
         let numbers = (0..NUMBERS).filter(|number| self.seen[*number] == 0).map(|number| number.to_string());
-        numbers.chain(self.rewrites.absent()).chain(self.lengths.absent()).chain(self.walks.absent()).collect()
+        numbers
+            .chain(self.codes.absent())
+            .chain(self.rewrites.absent())
+            .chain(self.lengths.absent())
+            .chain(self.walks.absent())
+            .collect()
     }
 }
 
