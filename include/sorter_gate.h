@@ -48,18 +48,19 @@ extern "C" {
 /* What a record begins with, and what follows it; docs/CONTROLLER.md, 'Records', says how an item is written. */
 /* begin codes: made by tests/tables from tables/codes.ini */
 enum sorter_gate_code {
-    SORTER_GATE_CODE_DRIVER_WRITE = 1,       /* then driver, count, items */
-    SORTER_GATE_CODE_CARD_WRITE = 2,         /* then card, count, items */
-    SORTER_GATE_CODE_DRIVER_READ = 3,        /* then driver, count, pairs: source, destination or 0 */
-    SORTER_GATE_CODE_CARD_READ = 4,          /* then card, count, pairs: source, destination or 0 */
-    SORTER_GATE_CODE_CREATE_PARTITION = 5,   /* then partition */
-    SORTER_GATE_CODE_DESTROY_PARTITION = 6,  /* then partition */
-    SORTER_GATE_CODE_ACTIVATE_DRIVER = 7,    /* then driver, partition */
-    SORTER_GATE_CODE_ACTIVATE_CARD = 8,      /* then card, partition */
-    SORTER_GATE_CODE_ACTIVATE_OBJECTS = 9,   /* then partition, count, objects */
-    SORTER_GATE_CODE_DEACTIVATE_DRIVER = 10, /* then driver */
-    SORTER_GATE_CODE_DEACTIVATE_CARD = 11,   /* then card */
-    SORTER_GATE_CODE_DEACTIVATE_OBJECTS = 12 /* then partition, count, objects */
+    SORTER_GATE_CODE_DRIVER_WRITE = 1,           /* then driver, count, items */
+    SORTER_GATE_CODE_CARD_WRITE = 2,             /* then card, count, items */
+    SORTER_GATE_CODE_DRIVER_READ = 3,            /* then driver, count, pairs: source, destination or 0 */
+    SORTER_GATE_CODE_CARD_READ = 4,              /* then card, count, pairs: source, destination or 0 */
+    SORTER_GATE_CODE_CREATE_PARTITION = 5,       /* then partition */
+    SORTER_GATE_CODE_DESTROY_PARTITION = 6,      /* then partition */
+    SORTER_GATE_CODE_ACTIVATE_DRIVER = 7,        /* then driver, partition */
+    SORTER_GATE_CODE_ACTIVATE_CARD = 8,          /* then card, partition */
+    SORTER_GATE_CODE_ACTIVATE_OBJECTS = 9,       /* then partition, count, objects */
+    SORTER_GATE_CODE_DEACTIVATE_DRIVER = 10,     /* then driver */
+    SORTER_GATE_CODE_DEACTIVATE_CARD = 11,       /* then card */
+    SORTER_GATE_CODE_DEACTIVATE_OBJECTS = 12,    /* then partition, count, objects */
+    SORTER_GATE_CODE_CREATE_GREEN_PARTITION = 13 /* then partition */
 };
 /* end codes */
 
@@ -86,8 +87,9 @@ enum sorter_gate_answer {
     SORTER_GATE_ELSEWHERE = 17,      /* an object is not in the driver's partition, or not in the one named */
     SORTER_GATE_NOT_DESCRIBED = 18,  /* a card's transfer is not described by what it reads now */
     SORTER_GATE_OUTSIDE = 19,        /* a chain of descriptor writes would lead a card out of its partition */
-    SORTER_GATE_IN_REACH = 20,       /* an active card can reach an object that would leave */
-    SORTER_GATE_ENTERS_OUTSIDE = 21  /* with this card brought in, a chain of writes would lead a card outside */
+    SORTER_GATE_IN_REACH = 20,       /* an active card can reach what leaves, or a green zone's descriptor names it */
+    SORTER_GATE_ENTERS_OUTSIDE = 21, /* with this card brought in, a chain of writes would lead a card outside */
+    SORTER_GATE_GREEN_RULE = 22      /* green zone: a stored value or the card's hard-wired one breaks its rule */
 };
 /* end answers */
 

@@ -45,7 +45,7 @@ def fresh(length=STATE_BYTES):
 
 # File L with a ring: value 1 reads and writes object 2, card 1's own, and puts value 3 there.
 RING = line(values=[[1, 2, 3, 3]] + VALUES[1:])
-CREATE_1, CREATE_2, DESTROY_1 = [5, 1], [5, 2], [6, 1]
+CREATE_1, CREATE_2, DESTROY_1, GREEN_1 = [5, 1], [5, 2], [6, 1], [13, 1]
 DRIVER_1_IN, CARD_1_IN, CARD_2_IN, OBJECT_5_IN = [7, 1, 1], [8, 1, 1], [8, 2, 2], [9, 1, 1, 5]
 READY = [CREATE_1, CREATE_2, DRIVER_1_IN, CARD_1_IN, CARD_2_IN, OBJECT_5_IN]
 LINES = {
@@ -81,6 +81,8 @@ SESSIONS = {
     20: (READY + [[1, 1, 1, 2, 0, 3], [12, 1, 1, 5]], "object 5 is taken out while card 1's descriptor writes it"),
     21: ([CREATE_1, CARD_1_IN], "file L, but value 1 reads and writes object 2 and puts value 3 there: card 1 is "
          "brought in before object 5, which value 3 writes"),
+    22: ([GREEN_1, DRIVER_1_IN, CARD_1_IN, [1, 1, 1, 2, 0, 5]], "driver 1 writes value 5 to object 2 in a green zone: "
+         "it puts value 4 into object 2, and no value there may write a transfer descriptor"),
 }
 # The lines of sessions that are not over L.
 SESSION_LINES = {21: RING}

@@ -8,6 +8,10 @@ GROUPS = ("line", "areas", "record", "operation")
 QUESTION_KEYS = {"group", "constant", "asked", "asks", "means", "definition", "header", "rust", "plan", "machine",
                  "remedy"}
 CODE_KEYS = {"does", "who", "fields", "manual", "plan"}
+# What a code may have besides.
+CODE_SORT = "sort"
+# The planner's wording of a question for what is in a green zone.
+GREEN = "green"
 NUMBER_KEYS = {"is", "rattle", "model", "reference", "sum", "header", "rust", "says", "python", "plan"}
 KIND_KEYS = {"is", "model", "case", "number", "area"}
 
@@ -43,7 +47,7 @@ def places(name, keys, optional=()):
 
 
 def codes():
-    return places("codes.ini", CODE_KEYS)
+    return places("codes.ini", CODE_KEYS, (CODE_SORT,))
 
 
 def kinds():
@@ -58,14 +62,21 @@ def kinds():
     return rows
 
 
+def wording_of(key):
+    """Which of the planner's wordings a key has: None for `plan`, GREEN for `plan green`, a code for `plan 5`."""
+    special = key.removeprefix("plan").strip()
+    return int(special) if special.isdigit() else special or None
+
+
 def questions():
-    """Each question with its texts; `plan` is a table of the planner's wordings by code, None for the usual one."""
+    """Each question with its texts; `plan` is a table of the planner's wordings by code, None for the usual one, and
+    GREEN for what is in a green zone."""
     known, filled = numbers(), {}
-    other = {f"plan {code}" for code in codes()}
+    other = {f"plan {code}" for code in [*codes(), GREEN]}
     for number, row in places("questions.ini", QUESTION_KEYS, other).items():
         filled[number] = {key: " ".join(text.split()).format_map(known) for key, text in row.items()}
-        filled[number]["plan"] = {int(key[5:]) if key != "plan" else None: text
-                                  for key, text in filled[number].items() if key.startswith("plan")}
+        filled[number]["plan"] = {wording_of(key): text for key, text in filled[number].items()
+                                  if key.startswith("plan")}
         if row["group"] not in GROUPS:
             raise Fault(f"tables/questions.ini, {number}: there is no group {row['group']}")
     for key in ("constant", "asks", "header", "rust", "machine"):

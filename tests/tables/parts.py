@@ -7,7 +7,7 @@ and one that says `end NAME`, in the comment form of its file.
 import re
 import textwrap
 
-from data import GROUPS, ROOT, Fault, codes, example_module, examples, kinds, numbers, questions, read
+from data import GREEN, GROUPS, ROOT, Fault, codes, example_module, examples, kinds, numbers, questions, read
 from release import version_of_header
 
 COLUMNS, PAGE = 120, 118
@@ -15,6 +15,8 @@ ACTORS = {"driver": "DRIVER", "card": "DEVICE", "nobody": "NOBODY"}
 # What a record's field is called in docs/CONTROLLER.md.
 FIELDS = {"where": "partition", "items": "count, items", "pairs": "count, pairs: source, destination or 0",
           "objects": "count, objects"}
+# The questions that tools/planner calls by name: those that a chain or an entry explains.
+PLAN_CONSTANTS = ("OUTSIDE", "IN_REACH", "ENTERS_OUTSIDE", "GREEN_RULE")
 # The papers' numbers of kinds, owners' classes and modes, for the line of the examples.
 KINDS = {1: "transfer descriptor", 2: "function descriptor", 3: "data", 4: "hard-wired descriptor"}
 OWNERS = {0: "external", 1: "driver", 2: "card"}
@@ -61,9 +63,14 @@ def sizes_of_rust():
     return made[:-1]
 
 
+def does_of(row):
+    """What a code does, with the sort of what it makes: two words where another code does the same."""
+    return f"{row['does']} {row['sort']}" if "sort" in row else row["does"]
+
+
 def code_name(row):
     """A code's name, of what it does and to whom, which are held to crates/operation."""
-    does = row["does"].upper()
+    does = does_of(row).upper().replace(" ", "_")
     if row["does"] in ("write", "read"):
         return f"{row['who'].upper()}_{does}"
     moved = row["who"] if row["who"] != "nobody" else "objects" if "objects" in row["fields"] else "partition"
@@ -132,7 +139,7 @@ def codes_of_plan():
     for number, row in sorted(codes().items()):
         fields = tuple(row["fields"].split(", "))
         shown = ", ".join(quoted(field) for field in fields) + ("," if len(fields) == 1 else "")
-        told = f"{number}, {quoted(row['does'])}, {ACTORS[row['who']]}, ({shown}), {quoted(row['plan'])}"
+        told = f"{number}, {quoted(does_of(row))}, {ACTORS[row['who']]}, ({shown}), {quoted(row['plan'])}"
         made.append(f"    Code({told}),")
     return made + [")}"]
 
@@ -142,9 +149,12 @@ def questions_of_plan():
     made = ["QUESTIONS = {"] + [f"    {number}: {quoted(row['plan'][None])}," for number, row in rows] + ["}"]
     made += ["# Where a question is put in other words for some codes.", "QUESTIONS_BY_CODE = {"]
     for number, row in rows:
-        made += [f"    ({number}, {code}): {quoted(text)}," for code, text in row["plan"].items() if code]
+        made += [f"    ({number}, {code}): {quoted(text)}," for code, text in row["plan"].items()
+                 if isinstance(code, int)]
+    made += ["}", "# Where it is put in other words for what is in a green zone.", "QUESTIONS_IN_GREEN = {"]
+    made += [f"    {number}: {quoted(row['plan'][GREEN])}," for number, row in rows if GREEN in row["plan"]]
     return made + ["}"] + [f"{row['constant']} = {number}" for number, row in rows
-                           if row["constant"] in ("OUTSIDE", "IN_REACH", "ENTERS_OUTSIDE")]
+                           if row["constant"] in PLAN_CONSTANTS]
 
 
 def then_of(row):

@@ -8,6 +8,8 @@ from parts import PARTS, span
 
 SPECS = "crates/model/specs"
 CODES = "crates/operation/src/codes.rt"
+# The code that creates a green zone, by the model.
+GREEN_CODE = f"{SPECS}/Operation.antt", "greenCode"
 KINDS_MODEL = f"{SPECS}/Rewriting.antt"
 KINDS_CODE = "crates/writer/src/lib.rt"
 # How the model puts kind and number together, which header and binding take apart again.
@@ -94,7 +96,7 @@ def arms(function):
     if not body:
         raise Fault(f"{CODES} has no match over the code in {function}")
     return [(ranges, element or word) for ranges, word, element in re.findall(
-        r"^\s+([\d_][^=]*(?:=\d+)?) => ([\w:]+)(?:\(s, (Element::\w+))?", body[1], re.MULTILINE)]
+        r"^\s+([\d_][\d_ |.=]*?) => ([\w:]+)(?:\(s, (Element::\w+))?", body[1], re.MULTILINE)]
 
 
 def chosen(function, code):
@@ -117,6 +119,14 @@ def check_codes():
             raise Fault(f"tables/codes.ini, {code}: {CODES} has {real}")
     if chosen("arguments", len(rows) + 1) in READERS:
         raise Fault(f"{CODES} reads code {len(rows) + 1}, which tables/codes.ini does not have")
+    check_sorts(rows)
+
+
+def check_sorts(rows):
+    """The only sort that there is, green, is that of the model's code and of no other."""
+    told = {code: row["sort"] for code, row in rows.items() if "sort" in row}
+    if told != {of_model(*GREEN_CODE): "green"}:
+        raise Fault(f"tables/codes.ini: {told} are the codes with a sort; {GREEN_CODE[0]} has {GREEN_CODE[1]} alone")
 
 
 def check_kinds():

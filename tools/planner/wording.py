@@ -67,6 +67,7 @@ CODES = {code.number: code for code in (
     Code(10, "deactivate", DRIVER, ("who",), "deactivate driver {who}"),
     Code(11, "deactivate", DEVICE, ("who",), "deactivate card {who}"),
     Code(12, "deactivate", NOBODY, ("where", "objects"), "deactivate from {where}: {what}"),
+    Code(13, "create green", NOBODY, ("where",), "create green {partition}"),
 )}
 # end codes
 
@@ -76,8 +77,17 @@ def codes_that(verb):
     return {code.number for code in CODES.values() if code.verb == verb}
 
 
+def verbs():
+    """The words of the column `operation`; those that begin alike stand side by side."""
+    words = list(dict.fromkeys(code.verb for code in CODES.values()))
+    first = [word.partition(" ")[0] for word in words]
+    return sorted(words, key=lambda word: (first.index(word.partition(" ")[0]), word))
+
+
 WRITES, READS = codes_that("write"), codes_that("read")
-CREATES, DESTROYS = codes_that("create"), codes_that("destroy")
+# Green zones are created by a code of their own, and destroyed like any other.
+GREENS = codes_that("create green")
+CREATES, DESTROYS = codes_that("create") | GREENS, codes_that("destroy")
 ACTIVATES, DEACTIVATES = codes_that("activate"), codes_that("deactivate")
 LISTS = ("items", "pairs", "objects")
 
@@ -106,26 +116,40 @@ QUESTIONS = {
     19: "With this done, is every card kept inside its partition?",
     20: "Is what leaves out of reach of every card that stays?",
     21: "With this card brought in, is every card kept inside its partition?",
+    22: "Does each stored value keep to the green zone, name nothing hard-wired, and write no transfer descriptor?",
 }
 # Where a question is put in other words for some codes.
 QUESTIONS_BY_CODE = {
     (14, 5): "Was the partition never used before?",
+    (14, 13): "Was the partition never used before?",
     (16, 7): "Is what is brought in inactive?",
     (16, 8): "Is what is brought in inactive?",
     (16, 9): "Is what is brought in inactive?",
     (17, 12): "Are all objects in the partition named?",
+    (22, 8): "Does the card's hard-wired value write no transfer descriptor, as a green zone asks?",
+}
+# Where it is put in other words for what is in a green zone.
+QUESTIONS_IN_GREEN = {
+    20: "Is what leaves out of reach of cards that stay, and named by no descriptor that stays in the green zone?",
 }
 OUTSIDE = 19
 IN_REACH = 20
 ENTERS_OUTSIDE = 21
+GREEN_RULE = 22
 # end questions
 # The questions that are answered with no for a chain of descriptor writes; those put on the state that would follow.
+# (For what leaves a green zone 20 is also answered with no without a chain: green.py has that, and 22.)
 BY_CHAIN = (OUTSIDE, IN_REACH, ENTERS_OUTSIDE)
 AFTERWARDS = (OUTSIDE, ENTERS_OUTSIDE)
 FIRST_OF_TABLES = 5
 
 
-def question(number, code=None):
-    """The question of a number, or a plain word for a number that this table does not have yet."""
+def question(number, code=None, green=False):
+    """The question of a number, or a plain word for a number that this table does not have yet.
+
+    `green` is whether it is put to what is in a green zone.
+    """
     plain = QUESTIONS.get(number, "(a question that this tool has no words for)")
+    if green and number in QUESTIONS_IN_GREEN:
+        return QUESTIONS_IN_GREEN[number]
     return QUESTIONS_BY_CODE.get((number, code), plain)

@@ -36,4 +36,7 @@ pub const DEACTIVATE_CARD: u8 = 11;
 
 /// Deactivate external objects. Then partition, count, objects.
 pub const DEACTIVATE_OBJECTS: u8 = 12;
+
+/// Create a green zone: a partition in which no card may write a descriptor. Then partition.
+pub const CREATE_GREEN_PARTITION: u8 = 13;
 // end codes

@@ -5,7 +5,7 @@ use core::fmt::{self, Display, Formatter};
 
 /// What it means that question 1, 2, .. is answered with no.
 // begin texts: made by tests/tables from tables/questions.ini
-const TEXTS: [&str; 21] = [
+const TEXTS: [&str; 22] = [
     "line file: a number's last byte is missing",
     "line file: a number has more than three bytes, is not in the shortest form, or is above 65,535",
     "line file: a number is out of its field's range",
@@ -25,8 +25,9 @@ const TEXTS: [&str; 21] = [
     "an object is not in the driver's partition, or not in the one named",
     "a card's transfer is not described by what it reads now",
     "a chain of descriptor writes would lead a card out of its partition",
-    "an active card can reach an object that would leave",
+    "an active card can reach an object that would leave, or a descriptor that stays in its green zone names it",
     "with this card brought in, a chain of descriptor writes would lead a card out of its partition",
+    "a value stored in a green zone names what it may not, or a card's hard-wired value writes a descriptor there",
 ];
 // end texts
 
@@ -93,6 +94,6 @@ mod tests {
             assert_eq!((refusal.number(), refusal.text(), refusal.is_known()), (number, UNKNOWN, false));
         }
         assert_eq!(Refusal::check(0), Ok(()));
-        assert_eq!(Refusal::check(21).map_err(Refusal::text), Err(TEXTS[20]));
+        assert_eq!(Refusal::check(22).map_err(Refusal::text), Err(TEXTS[21]));
     }
 }

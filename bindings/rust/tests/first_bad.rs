@@ -111,7 +111,8 @@ fn a_fault_before_the_records_is_no_objects() {
     let line = line_l();
     for (at, byte, fault) in [
         (0, 1, "partition 0 exists"),
-        (9, 3, "partition 9 is neither used nor not"),
+        (0, 3, "partition 0 is a green zone"),
+        (9, 4, "partition 9 is neither used nor not"),
         (64 + 1, 5, "driver 2, who owns nothing, is in a partition that does not exist"),
         (64 + 2, 1, "a driver that there is not"),
         (80 + 15, 1, "a card that there is not"),
@@ -129,7 +130,7 @@ fn a_fault_before_the_records_can_break_some() {
     for (at, byte, object, fault) in [
         (1, 2, 1, "partition 1 is destroyed"),
         (1, 0, 1, "partition 1 was never created"),
-        (1, 3, 1, "partition 1 is neither used nor not"),
+        (1, 4, 1, "partition 1 is neither used nor not"),
         (64, 0, 6, "driver 1 is not active"),
         (80, 0, 1, "card 1 is not active"),
         (81, 1, 3, "card 2 is active"),

@@ -47,10 +47,15 @@ fn the_longest_record_is_accepted_and_no_longer_one() {
     assert_eq!(last_of(&[&before[..], &[&record]].concat()), 10);
 }
 
-/// What each code does shows in what it lets follow.
+/// What each code does shows in what it lets follow, in a green zone as in another.
 #[test]
 fn each_code_does_what_its_name_says() {
-    let create: &[u8] = &[code::CREATE_PARTITION, 1];
+    for create in [code::CREATE_PARTITION, code::CREATE_GREEN_PARTITION] {
+        what_each_code_does(&[create, 1]);
+    }
+}
+
+fn what_each_code_does(create: &[u8]) {
     let (driver, card): (&[u8], &[u8]) = (&[code::ACTIVATE_DRIVER, 1, 1], &[code::ACTIVATE_CARD, 1, 1]);
     let object: &[u8] = &[code::ACTIVATE_OBJECTS, 1, 1, 17];
     let destroy: &[u8] = &[code::DESTROY_PARTITION, 1];
