@@ -2,6 +2,7 @@
 import unittest
 
 from planner import wording as w
+from planner.area import area_bytes, read_area
 from planner.book import follow, fresh
 from planner.config import Config, Device, Entry, Object, Value
 from planner.visit import Item, Move, Pair
@@ -57,10 +58,20 @@ class Book(unittest.TestCase):
         self.assertEqual((state.existing(), state.created, state.destroyed),
                          ([8], {7: "row 2", 8: "row 3"}, {7: "row 4"}))
 
+    def test_green_zones(self):
+        """They exist like others, have a standing of their own, and are none any more once they are destroyed."""
+        state = after((13, 0, 7, ()), (5, 0, 8, ()), (13, 0, 9, ()), (6, 0, 9, ()))
+        self.assertEqual((state.existing(), state.created), ([7, 8], {7: "row 2", 8: "row 3", 9: "row 4"}))
+        self.assertEqual([state.is_green(p) for p in range(7, 11)], [True, False, False, False])
+        self.assertEqual(list(area_bytes(CONFIG, state)[6:11]), [0, 3, 1, 2, 0])
+        self.assertEqual(read_area(CONFIG, area_bytes(CONFIG, state)).green.keys(), {7})
+
     def test_the_state_before_is_left_alone(self):
         state = after(*ENTER)
         follow(CONFIG, state, Move(9, *FILL))
         self.assertEqual(state.contents, fresh(CONFIG).contents)
+        follow(CONFIG, state, Move(9, 13, 0, 2))
+        self.assertFalse(state.green)
 
 
 if __name__ == "__main__":

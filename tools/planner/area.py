@@ -14,7 +14,9 @@ OBJECTS_AT = CARDS_AT + w.LIMITS["cards"]
 BYTES_OF = {w.DRIVER: range(DRIVERS_AT, CARDS_AT), w.DEVICE: range(CARDS_AT, OBJECTS_AT)}
 RECORD = 1 + w.CONTENT_BYTES
 SMALL_ROOM, WIDE_ROOM = w.LIMITS["objects of a small line"], w.LIMITS["objects"]
-NEVER, EXISTING, DESTROYED = range(3)
+# The standings of a partition. One that is destroyed no longer shows whether it was green.
+NEVER, EXISTING, DESTROYED, GREEN = 0, 1, 2, 3
+STANDING_WORDS = {NEVER: "never used", EXISTING: "there", DESTROYED: "destroyed", GREEN: "there as a green zone"}
 # As the example controller stores an area: a mark, a digest of the line file, the area, a digest of all before.
 MARK = b"SGSTATE1"
 DIGEST_BYTES = 8
@@ -90,12 +92,14 @@ def take_area(config, data):
     """
     state, faults = State(), []
     for number in range(STANDINGS):
-        if data[number] > DESTROYED or number == NONE and data[number]:
+        if data[number] > GREEN or number == NONE and data[number]:
             faults.append(f"byte {number}: {data[number]} is no standing of a partition")
         elif data[number]:
             state.created[number] = IN_AREA
             if data[number] == DESTROYED:
                 state.destroyed[number] = IN_AREA
+            elif data[number] == GREEN:
+                state.green[number] = IN_AREA
     state.drivers = places(config, state, data, w.DRIVER, faults)
     state.devices = places(config, state, data, w.DEVICE, faults)
     for number in range(1, room(config) + 1):
@@ -147,11 +151,18 @@ def take_object(config, state, number, record, at, faults):
                       f"'{config.value(config.devices[one.owner].hardcoded)}'")
 
 
+def standing_of(state, number):
+    """The standing byte of a partition."""
+    if number not in state.created:
+        return NEVER
+    return DESTROYED if number in state.destroyed else GREEN if state.is_green(number) else EXISTING
+
+
 def area_bytes(config, state):
     """The area of a state, in the layout of document 01."""
     data = bytearray(length_for(room(config)))
     for number in state.created:
-        data[number] = DESTROYED if number in state.destroyed else EXISTING
+        data[number] = standing_of(state, number)
     for start, where in ((DRIVERS_AT, state.drivers), (CARDS_AT, state.devices)):
         for number, place in where.items():
             data[start + number - 1] = place
@@ -171,10 +182,8 @@ def content_words(config, number, content):
 
 def differences(config, wanted, made):
     """What is another in two states, in words: how it is in the first, and in the second."""
-    def standing(state, number):
-        return "destroyed" if number in state.destroyed else "there" if number in state.created else "never used"
-
-    found = [(config.full_partition(n), standing(wanted, n), standing(made, n)) for n in range(1, STANDINGS)]
+    found = [(config.full_partition(n), *(STANDING_WORDS[standing_of(state, n)] for state in (wanted, made)))
+             for n in range(1, STANDINGS)]
     for owner_class in (w.DRIVER, w.DEVICE):
         crew = wanted.drivers if owner_class == w.DRIVER else wanted.devices
         found += [(config.actor(owner_class, n),

@@ -8,7 +8,10 @@ NONE = 0
 
 @dataclass
 class State:
-    """Where all things are and what they hold; partitions by the spots that created and destroyed them."""
+    """Where all things are and what they hold; partitions by the spots that created and destroyed them.
+
+    `green` has those of the created ones that were created as green zones.
+    """
     created: dict = field(default_factory=dict)
     destroyed: dict = field(default_factory=dict)
     drivers: dict = field(default_factory=dict)
@@ -16,12 +19,17 @@ class State:
     objects: dict = field(default_factory=dict)
     contents: dict = field(default_factory=dict)
     moved: dict = field(default_factory=dict)
+    green: dict = field(default_factory=dict)
 
     def copy(self):
         return State(*(dict(getattr(self, column.name)) for column in fields(self)))
 
     def exists(self, partition):
         return partition in self.created and partition not in self.destroyed
+
+    def is_green(self, partition):
+        """Whether it is a green zone that exists; one that was destroyed is none any more."""
+        return partition in self.green and self.exists(partition)
 
     def existing(self):
         return [p for p in self.created if self.exists(p)]
@@ -54,7 +62,7 @@ def follow(config, state, move):
     """The state after an accepted move."""
     after = state.copy()
     if move.code in w.CREATES:
-        after.created[move.where] = move.spot
+        create(after, move)
     elif move.code in w.DESTROYS:
         after.destroyed[move.where] = move.spot
     elif move.code in w.WRITES:
@@ -67,6 +75,14 @@ def follow(config, state, move):
     else:
         relocate(config, after, move)
     return after
+
+
+def create(after, move):
+    """A partition is there, as a green zone or as a plain one."""
+    after.created[move.where] = move.spot
+    after.green.pop(move.where, None)
+    if move.code in w.GREENS:
+        after.green[move.where] = move.spot
 
 
 def relocate(config, after, move):

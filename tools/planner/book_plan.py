@@ -23,7 +23,7 @@ def lists_of(config):
     actors = [*config.drivers.values(), *(device.name for device in config.devices.values())]
     return {
         "kinds": list(SHORT_KINDS.values()), "modes": list(w.MODES.values()),
-        "operations": list(dict.fromkeys(code.verb for code in w.CODES.values())),
+        "operations": w.verbs(),
         OWNERS: [*actors, w.OWNERS[w.EXTERNAL]], ACTORS: actors,
         VALUES: [*(value.name for value in config.values.values()), w.CLEARED],
         OBJECTS: [one.name for one in config.objects.values()],

@@ -68,6 +68,11 @@ class Config:
         one = self.objects[number]
         return (one.owner_class, number if one.owner_class == w.EXTERNAL else one.owner)
 
+    def holder_words(self, number):
+        """The same in words: 'card Scale', 'Barcode table'."""
+        owner_class, owner = self.holder(number)
+        return self.object(owner) if owner_class == w.EXTERNAL else self.actor(owner_class, owner)
+
     def hardcoded_object(self, device):
         """The device's hardcoded descriptor."""
         return next(n for n in self.owned(w.DEVICE, device) if self.objects[n].kind == w.HARDCODED)

@@ -64,10 +64,9 @@ def read_visit(line, rows):
 
 def read_move(line, row):
     verb = key(row.needed("operation"))
-    verbs = list(dict.fromkeys(code.verb for code in w.CODES.values()))
-    if verb not in verbs:
+    if verb not in w.verbs():
         given = row.text("operation")
-        raise row.fault("operation", f"'{given}' is none of: {', '.join(verbs)}{likely(given, verbs)}")
+        raise row.fault("operation", f"'{given}' is none of: {', '.join(w.verbs())}{likely(given, w.verbs())}")
     actor, who = read_actor(line, row)
     code = find_code(row, verb, actor)
     used = {COLUMNS_OF[part] for part in code.fields}
