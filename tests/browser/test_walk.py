@@ -34,16 +34,23 @@ WIDEST = "Math.max(...[...document.querySelectorAll('body *')].filter((one) => !
 CUT = "[...document.querySelectorAll('h1, h2, h3, p, .object, .owner, .pick, .why, .partition, th')]" \
       ".filter((one) => one.scrollWidth > one.clientWidth + 1).map((one) => one.textContent)"
 CHOSEN = "document.querySelector('.stop.chosen').id"
+# The partitions that are drawn as green zones, and what stands beside their names.
+GREEN_ZONES = "[...document.querySelectorAll('.partition.green h3')].map((one) => [...one.children]" \
+              ".map((part) => part.textContent))"
 
 
 def plans():
-    """Plans on lines of 5, 40, 96 and 192 objects, the example, one with rings, one with long names; each named."""
+    """Plans on lines of 5, 40, 96 and 192 objects, the example, also with its loop green, one with rings, one with long
+    names; each named."""
     config, moves = sorters.small()
     yield "small", judge_moves(PROGRAM, config, moves)
     for name, size in (("middle", dict(cards=7, loose=2)), ("large", sorters.LARGE), ("wide", sorters.WIDE)):
         made = sorters.visit(**size)
         yield name, judge_moves(PROGRAM, made.config, made.rows())
-    yield "example", judge_folder(PROGRAM, ROOT / "examples" / "visit")
+    example = judge_folder(PROGRAM, ROOT / "examples" / "visit")
+    yield "example", example
+    moves = [step.move for step in example.visit]
+    yield "green", judge_moves(PROGRAM, example.config, [replace(moves[0], code=13)] + moves[1:])
     yield "rings", judge_moves(PROGRAM, mailbox_line(), mailbox_visit(1, 2))
     config, moves = sorters.small()
     config.drivers[1], config.partitions[1] = "Sortieranlagensteuerung" * 4, "Paketverteilzentrum" * 5
@@ -211,6 +218,22 @@ class Walk(unittest.TestCase):
                 self.assertGreaterEqual(self.contrast(one), 4.5, one)
             self.browser.click("#theme")
 
+    def test_green_zones(self):
+        """The loop is green and named so, the bench is not; a move that 22 refuses shows things as they stand."""
+        self.open("green", "row-17")
+        self.assertEqual(self.browser.value(GREEN_ZONES), [["Live loop", "green zone, partition 1"]])
+        self.assertIn("Shown as things stand.", self.browser.value("document.getElementById('said').textContent"))
+        for _ in range(2):
+            for one in (".partition.green h3", ".partition.green small", ".partition.green .held"):
+                self.assertGreaterEqual(self.contrast(one), 4.5, one)
+            self.browser.click("#theme")
+        self.open("green", "row-2")
+        self.assertIn("created by this move as a green zone", self.browser.value(
+            "document.querySelector('.partition.green .note').textContent"))
+        self.assertGreater(self.browser.value("document.querySelectorAll('.bar.green').length"), 3)
+        self.open("example", "row-17")
+        self.assertEqual(self.browser.value(GREEN_ZONES), [])
+
     def contrast(self, selector):
         """The contrast of an element's text with the first ground behind it that is not transparent."""
         colours = self.browser.value(f"""(() => {{
@@ -265,7 +288,8 @@ class Walk(unittest.TestCase):
                 self.assertIn("".join(words.split()), flat, name)
                 for finding in plan.findings(step):
                     self.assertIn("".join(finding.text[1:].split()), flat, name)
-            links = sum(len(finding.chain) for step in plan.steps for finding in plan.findings(step))
+            links = sum(len(finding.chain) + finding.text.count("has an entry") for step in plan.steps
+                        for finding in plan.findings(step))
             self.assertEqual(flat.count("hasanentry") + flat.count("readsitshard-wireddescriptor"), links, name)
             self.assertIn("line.bin", flat)
 

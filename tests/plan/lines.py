@@ -70,6 +70,38 @@ def ring_visit(config, seed):
     return [replace(move, row=row) for row, move in enumerate(moves, 2)]
 
 
+def green_visit(config, seed):
+    """A random visit, on lines with rings too, whose zones are partly green: mostly the first, where most things are.
+
+    Behind it drivers copy descriptors, and external objects leave, some of them named by a descriptor that stays.
+    """
+    rng, moves = random.Random(f"green {seed}"), ring_visit(config, seed)
+    green = rng.choice(({1}, {1}, {1, 2}, {2}, {1, 2, 3}))
+    moves = [replace(move, code=13) if move.code == 5 and move.where in green else move for move in moves]
+    descriptors = [n for n, one in config.objects.items() if one.kind == w.TRANSFER]
+    for _ in range(20):
+        pairs = tuple(Pair(rng.choice(descriptors), n) for n in rng.sample(descriptors, min(2, len(descriptors))))
+        copy = Move(0, 3, rng.choice(list(config.drivers)), 0, pairs)
+        leave = Move(0, 12, 0, rng.randint(1, PARTITIONS), (rng.choice(config.owned(w.EXTERNAL, 0)),))
+        moves.append(rng.choice((copy, leave)))
+    return [replace(move, row=row) for row, move in enumerate(moves, 2)]
+
+
+def all_green_visit(config, seed):
+    """The same in green zones alone, none of which is destroyed; at the end drivers write and leave, and others too."""
+    rng = random.Random(f"all green {seed}")
+    moves = [replace(move, code=13) if move.code == 5 else move for move in green_visit(config, seed)
+             if move.code != 6]
+    descriptors = [n for n, one in config.objects.items() if one.kind == w.TRANSFER]
+    loose = config.owned(w.EXTERNAL, 0)
+    for _ in range(12):
+        driver, item = rng.choice(list(config.drivers)), Item(rng.choice(descriptors), w.VALUE_FORM,
+                                                              rng.randint(0, len(config.values)))
+        moves += [Move(0, rng.choice((10, 11)), driver), Move(0, 1, rng.choice(list(config.drivers)), 0, (item,)),
+                  Move(0, 12, 0, rng.randint(1, PARTITIONS), tuple(rng.sample(loose, rng.randint(1, len(loose)))))]
+    return [replace(move, row=row) for row, move in enumerate(moves, 2)]
+
+
 def mailbox_line():
     """Two cards with rings: C1's puts a job into an external descriptor, C2's has C2 do what it finds there."""
     ring_1, ring_2, mailbox, lamp = 2, 4, 5, 6

@@ -4,27 +4,29 @@ from collections import Counter
 from dataclasses import replace
 
 from common import PROGRAM, ROOT
-from lines import (mailbox_line, mailbox_visit, random_line, random_visit, ring_line, ring_visit, wide_line,
-                   wide_ring_line)
+from lines import (green_visit, mailbox_line, mailbox_visit, random_line, random_visit, ring_line, ring_visit,
+                   wide_line, wide_ring_line)
 from planner import wording as w
 from planner.book import concerned, follow, fresh
 from planner.chain import BrokenChain, confirm
 from planner.closure import outside_chain
+from planner.green import leaves_green
 from planner.judged import judge_folder, judge_moves
 from planner.reach import chain_sentences, explained_chain, searched_state
 
-SESSIONS, WIDE_SESSIONS, RING_SESSIONS = 300, 40, 200
+SESSIONS, WIDE_SESSIONS, RING_SESSIONS, GREEN_SESSIONS = 300, 40, 200, 100
 # The codes of the moves that are searched for a chain; bringing in drivers and external objects never makes one.
 SEARCHED = {1, 3} | w.ACTIVATES | w.DEACTIVATES
 
 
 def judged_sessions():
-    """On small lines, on wide ones and on those with rings, each with what tells it from the others."""
+    """On small lines, on wide ones and on those with rings, in green zones too, each with what tells it from others."""
     for make, visit, count in ((random_line, random_visit, SESSIONS), (wide_line, random_visit, WIDE_SESSIONS),
-                               (ring_line, ring_visit, RING_SESSIONS), (wide_ring_line, ring_visit, WIDE_SESSIONS)):
+                               (ring_line, ring_visit, RING_SESSIONS), (wide_ring_line, ring_visit, WIDE_SESSIONS),
+                               (random_line, green_visit, GREEN_SESSIONS), (ring_line, green_visit, GREEN_SESSIONS)):
         for seed in range(count):
             config = make(seed)
-            yield f"{make.__name__} {seed}", judge_moves(PROGRAM, config, visit(config, seed))
+            yield f"{make.__name__} {seed}, {visit.__name__}", judge_moves(PROGRAM, config, visit(config, seed))
 
 
 class Chains(unittest.TestCase):
@@ -44,13 +46,21 @@ class Chains(unittest.TestCase):
         self.assertGreater(counts[w.OUTSIDE], 500)
         self.assertGreater(counts[w.IN_REACH], 150)
         self.assertGreater(counts[w.ENTERS_OUTSIDE], 150)
+        self.assertGreater(counts[w.GREEN_RULE], 500)
 
     def chains(self):
-        """Every refusal that has a chain, with what tells it from the others."""
+        """Every refusal that has a chain, with what tells it from the others.
+
+        Only what leaves a green zone may be refused without one; there may be descriptors that name it.
+        """
         for seed, plan in self.plans:
             for step in plan.steps:
                 if step.answer in w.BY_CHAIN:
-                    yield plan.config, step, plan.findings(step)[0].chain, f"seed {seed}, row {step.move.row}"
+                    links, where = plan.findings(step)[0].chain, f"seed {seed}, row {step.move.row}"
+                    if links:
+                        yield plan.config, step, links, where
+                    else:
+                        self.assertTrue(leaves_green(plan.config, step.before, step.move), where)
 
     def test_every_chain_ends_where_it_must(self):
         lengths = {answer: Counter() for answer in w.BY_CHAIN}

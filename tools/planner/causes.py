@@ -11,10 +11,12 @@ from . import reasons
 from . import wording as w
 from .book import NONE, follow
 from .chain import BrokenChain
-from .reach import explained_chain
+from .green import breaches, clinging, put_green
+from .reach import found_chain
 
 PARTITION, EMPTY, ACTIVE, PLACE, DESCRIBED = 14, 15, 16, 17, 18
-ON_STATE = (PARTITION, EMPTY, ACTIVE, PLACE, DESCRIBED, *w.BY_CHAIN)
+# The questions that look at a state, in the order in which they are put.
+ON_STATE = (PARTITION, EMPTY, ACTIVE, PLACE, DESCRIBED, w.OUTSIDE, w.IN_REACH, w.GREEN_RULE, w.ENTERS_OUTSIDE)
 # Of the causes, so many of the latest are followed.
 MOST_FOLLOWED = 64
 
@@ -71,21 +73,31 @@ def trace(config, worlds, step, failed):
 def remaining(config, state, step, failed):
     """What the move would still fail on in a world: all of it, if a question stops it there before its own."""
     move, number = step.move, step.answer
-    early = [one for one in ON_STATE if one < number and asked(one, move)]
-    if number not in ON_STATE or any(failures(config, state, move, one) for one in early):
+    if number not in ON_STATE:
+        return failed
+    early = [one for one in ON_STATE[:ON_STATE.index(number)] if asked(one, move)]
+    if any(failures(config, state, move, one) for one in early):
         return failed
     stays = failures(config, state, move, number)
-    return failed if stays and number in w.BY_CHAIN else stays
+    return failed if stays and put_here(state, move, number) in w.BY_CHAIN else stays
+
+
+def put_here(state, move, number):
+    """The question put in a state in place of another: to a driver's move 22 where its zone is green, else 19."""
+    if number in (w.OUTSIDE, w.GREEN_RULE) and move.code not in w.ACTIVATES:
+        return w.GREEN_RULE if put_green(state, move) else w.OUTSIDE
+    return number
 
 
 def asked(number, move):
-    """Whether one of the questions before those of chains is put to a move of its code."""
+    """Whether one of the questions before the last one is put to a move of its code."""
     transfers = move.code in w.WRITES | w.READS
     return {PARTITION: "where" in w.CODES[move.code].fields,
             EMPTY: move.code in w.DESTROYS,
             ACTIVE: move.code not in w.CREATES | w.DESTROYS,
             PLACE: transfers and move.actor == w.DRIVER or move.code in w.DEACTIVATES and move.actor == w.NOBODY,
-            DESCRIBED: transfers and move.actor == w.DEVICE}.get(number, False)
+            DESCRIBED: transfers and move.actor == w.DEVICE,
+            w.GREEN_RULE: move.code in w.ACTIVATES and move.actor == w.DEVICE}.get(number, False)
 
 
 def failures(config, state, move, number):
@@ -98,8 +110,8 @@ def failures(config, state, move, number):
     if number == ACTIVE and move.actor != w.NOBODY:
         bad = (state.actor(move.actor, move.who) != NONE) == (move.code in w.ACTIVATES)
         return frozenset([((move.actor, move.who),)] if bad else [])
-    if number in w.BY_CHAIN:
-        return chain_failure(config, state, move)
+    if number in w.BY_CHAIN or number == w.GREEN_RULE:
+        return last_failure(config, state, move, number)
     return frozenset(tuple(finding.things) for finding in reasons.find(config, state, move, number))
 
 
@@ -114,12 +126,18 @@ def since(state, failed):
     return rows
 
 
-def chain_failure(config, state, move):
-    """Any chain is a failure; two rows fail on the same if their chains are the same."""
+def last_failure(config, state, move, number):
+    """Any chain is a failure, and so is an entry that breaks a green zone's rule, or names there what leaves.
+
+    Two rows fail on the same if their chains and entries are the same.
+    """
+    if put_here(state, move, number) == w.GREEN_RULE:
+        return frozenset((one,) for one in breaches(config, state, move))
+    named = [(one,) for one in clinging(config, state, move)]
     try:
-        return frozenset([explained_chain(config, state, move)])
+        return frozenset(named + [links for links in [found_chain(config, state, move)] if links])
     except BrokenChain:
-        return frozenset()
+        return frozenset(named)
 
 
 def done(config, state, move):

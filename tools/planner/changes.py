@@ -6,6 +6,7 @@ from dataclasses import dataclass, replace
 
 from . import wording as w
 from .book import NONE
+from .green import breaches, clinging, only_elsewhere, zone_of
 from .reach import missing
 from .visit import Item, Move, move_words
 
@@ -100,7 +101,7 @@ def additions(config, step, chain, change):
     """Moves to be put around a refused step, as its question suggests."""
     target = step.move.row
     makers = {14: create_first, 15: empty_first, 16: (enter_first, leave_first)[step.move.code in w.ACTIVATES],
-              17: bring_together}
+              17: bring_together, w.IN_REACH: let_go_first, w.GREEN_RULE: bring_named}
     maker = makers.get(step.answer)
     for before, after, text in maker(config, step) if maker else ():
         yield around(change, config, target, before, after, text)
@@ -111,7 +112,7 @@ def additions(config, step, chain, change):
 
 def create_first(config, step):
     if step.move.code not in w.CREATES and step.move.where not in step.before.created:
-        yield [Move(0, min(w.CREATES), where=step.move.where)], [], "the partition first"
+        yield [Move(0, code_of("create", w.NOBODY), where=step.move.where)], [], "the partition first"
 
 
 def move_out(state, owner_class, number):
@@ -181,6 +182,36 @@ def bring_first(config, step, chain):
     if owner:
         out = [move_out(step.before, *owner)] if step.before.objects[chain[-1].to] != NONE else []
         yield out + [move_in(*owner, home)], [], "what its chain ends at brought in first"
+
+
+def bring_named(config, step):
+    """What the values name that a driver stores in a green zone comes in first, out of where it is if need be."""
+    broken, state, zone = breaches(config, step.before, step.move), step.before, zone_of(step.before, step.move)
+    if step.move.code in w.ACTIVATES or not all(only_elsewhere(config, one.entry) for one in broken):
+        return
+    before = []
+    for owner in dict.fromkeys(config.holder(one.entry.object) for one in broken):
+        there = state.objects[owner[1]] if owner[0] == w.EXTERNAL else state.actor(*owner)
+        before += ([move_out(state, *owner)] if there != NONE else []) + [move_in(*owner, zone)]
+    if before:
+        yield before, [], "what its value names brought in first"
+
+
+def let_go_first(config, step):
+    """What stays in a green zone and names what leaves is cleared, by a driver that is there or that comes for it."""
+    state = step.before
+    held = list(dict.fromkeys(one.descriptor for one in clinging(config, state, step.move)
+                              if config.objects[one.descriptor].kind == w.TRANSFER))[:MOST_ITEMS]
+    if not held:
+        return
+    zone = state.objects[held[0]]
+    driver, idle = driver_in(state, zone), driver_in(state, NONE)
+    items = tuple(Item(n, w.VALUE_FORM) for n in held)
+    if driver is not None:
+        yield [Move(0, code_of("write", w.DRIVER), driver, what=items)], [], "cleared first"
+    elif idle is not None:
+        yield [move_in(w.DRIVER, idle, zone), Move(0, code_of("write", w.DRIVER), idle, what=items),
+               move_out(state, w.DRIVER, idle)], [], "cleared first"
 
 
 def driver_in(state, where):

@@ -6,6 +6,7 @@ from . import wording as w
 from .chain import BrokenChain
 from .config import Config
 from .finding import Finding
+from .green import leaves_green
 from .tables import open_tables, read_line
 from .visit import BRINGUP, VISIT, read_visit
 
@@ -22,6 +23,10 @@ class Step:
     @property
     def accepted(self):
         return self.answer == w.ACCEPTED
+
+    def question(self, config):
+        """The question that refused the move, as it is put to this one."""
+        return w.question(self.answer, self.move.code, leaves_green(config, self.before, self.move))
 
 
 @dataclass(frozen=True)

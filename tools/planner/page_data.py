@@ -5,6 +5,7 @@ The states are not there: the script puts them together from what the moves set,
 import json
 
 from . import wording as w
+from .area import DESTROYED, EXISTING, GREEN
 from .reach import searched_state
 from .visit import raw_words
 
@@ -51,6 +52,7 @@ def page_data(plan):
                    "done": plan.first if step is None else step.place} for step in stops(plan)],
         "words": list(words.texts),
         "afterwards": list(w.AFTERWARDS),
+        "standings": {"plain": EXISTING, "green": GREEN},
     }
 
 
@@ -78,8 +80,9 @@ def step_data(plan, step, words):
 
 def settings(config, before, after, words, stored):
     """What differs between two states, and what was stored without a difference."""
-    found = [["partition", number, 1] for number in after.created if number not in before.created]
-    found += [["partition", number, 2] for number in after.destroyed if number not in before.destroyed]
+    found = [["partition", number, GREEN if number in after.green else EXISTING] for number in after.created
+             if number not in before.created]
+    found += [["partition", number, DESTROYED] for number in after.destroyed if number not in before.destroyed]
     for sort, column in PLACES:
         old, new = getattr(before, column), getattr(after, column)
         found += [[sort, number, new[number]] for number in new if new[number] != old[number]]

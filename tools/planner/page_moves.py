@@ -57,13 +57,14 @@ def move_html(plan, step, origins):
 
 def why_html(plan, step):
     findings = plan.findings(step)
-    parts = [element("p", escape(w.question(step.answer, step.move.code)), class_="question")]
+    parts = [element("p", escape(step.question(plan.config)), class_="question")]
     parts += [element("p", f"<b>No:</b> {escape(sentence(finding.text))}") for finding in findings]
     if not findings:
         parts.append("<p><b>No</b>; the tables do not show on what.</p>")
     for finding in findings:
         if finding.chain:
             parts += chain_html(plan, step, finding.chain)
+        parts += [element("p", escape(text), class_="way") for text in finding.ways]
     return element("div", "".join(parts), class_="why")
 
 
@@ -132,10 +133,12 @@ def track_row(plan, track, count):
 
 
 def bar_html(plan, track, stay, left, width):
-    config = plan.config
+    config, green = plan.config, stay.partition in plan.last_state().green
     came = f"from {stay.came.move.spot}" if stay.came else "from the beginning"
     gone = f"to {stay.left.move.spot}" if stay.left else "to the end"
-    words = f"{bare_name(config, track)} in {config.partition(stay.partition)}, {came} {gone}"
+    where = config.partition(stay.partition) + (" (green zone)" if green else "")
+    words = f"{bare_name(config, track)} in {where}, {came} {gone}"
     goal = stop_key(stay.came)
-    return element("a", escape(config.partition(stay.partition)), class_=f"bar tint{stay.partition % 6}",
-                   href="#" + goal, title=words, aria_label=words, style=f"left:{left:.3f}%;width:{width:.3f}%")
+    return element("a", escape(config.partition(stay.partition)),
+                   class_="bar green" if green else f"bar tint{stay.partition % 6}", href="#" + goal, title=words,
+                   aria_label=words, style=f"left:{left:.3f}%;width:{width:.3f}%")

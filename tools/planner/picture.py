@@ -12,6 +12,9 @@ from .visit import move_words
 RED, GREEN, INK, GREY = "#c8102e", "#1b7f3b", "#1f2933", "#64707d"
 KIND_MARKS = {w.TRANSFER: ("T", "#d97706"), w.FUNCTION: ("F", "#7c3aed"), w.DATA: ("D", "#0f766e"),
               w.HARDCODED: ("H", "#475569")}
+# The paper of a partition and its frame: a plain one, a green zone, and what is in none.
+ZONE_COLOURS = {"plain": ("#f8fafc", "#94a3b8"), "green": ("#dff3e3", "#2e9e4f"), "none": ("#ffffff", "#94a3b8")}
+GREEN_ZONE = "green zone"
 GROUP_COLOURS = {w.DRIVER: ("#d8ecd9", "#2f6b36"), w.DEVICE: ("#d6e4f7", "#1d4e89"), w.EXTERNAL: ("#ece7dc", "#6b5d3c")}
 # How an arrow is drawn by what its entry does, and what the legend says of it.
 LOOKS = {w.READ: {}, w.WRITE: dict(stroke_dasharray="6 4"), w.BOTH: dict(stroke_dasharray="14 4 3 4")}
@@ -93,7 +96,7 @@ def heading(plan, step, findings, chain, width):
         texts = [move_words(plan.config, step.move)]
         colour = GREEN if step.accepted else RED
         if not step.accepted:
-            texts.append(f"{w.question(step.answer, step.move.code)} No: {'; '.join(f.text for f in findings)}.")
+            texts.append(f"{step.question(plan.config)} No: {'; '.join(f.text for f in findings)}.")
     y = MARGIN + 14
     body = [label(MARGIN, y, title, 20, font_weight="bold", fill=colour)]
     for place, text in enumerate(texts):
@@ -106,14 +109,17 @@ def heading(plan, step, findings, chain, width):
 def draw_box(config, one, marks, colour):
     """A partition with its groups."""
     hot = ("partition", one.number) in marks
-    frame = dict(stroke=colour if hot else "#94a3b8", stroke_width=2.5 if hot else 1.4)
+    paper, edge = ZONE_COLOURS["green" if one.green else "plain" if one.number else "none"]
+    frame = dict(stroke=colour if hot else edge, stroke_width=2.5 if hot else 1.4)
     if one.number == 0:
         frame["stroke_dasharray"] = "6 4"
     title = config.partition(one.number) if one.number else "In no partition (inactive)"
-    number = f"partition {one.number}" if one.number in config.partitions else ""
-    body = [box(one.x, one.y, one.width, one.height, rx=10, fill="#f8fafc" if one.number else "#ffffff", **frame),
-            label(one.x + PAD, one.y + 22, title, 15, one.width - 130, font_weight="bold", fill=INK),
-            label(one.x + one.width - PAD, one.y + 22, number, 11, text_anchor="end", fill=GREY)]
+    words = [GREEN_ZONE] * one.green + [f"partition {one.number}"] * (one.number in config.partitions)
+    room = one.width - 130 - text_width(GREEN_ZONE, 11) * one.green
+    body = [box(one.x, one.y, one.width, one.height, rx=10, fill=paper, **frame),
+            label(one.x + PAD, one.y + 22, title, 15, room, font_weight="bold", fill=INK),
+            label(one.x + one.width - PAD, one.y + 22, ", ".join(words), 11, text_anchor="end",
+                  fill=GREEN if one.green else GREY)]
     if not one.groups:
         body.append(label(one.x + PAD, one.y + TITLE + 12, "empty", 12, fill=GREY, font_style="italic"))
     for group in one.groups:

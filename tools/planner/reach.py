@@ -4,6 +4,7 @@ from .book import NONE, concerned, follow
 from .chain import BrokenChain, confirm, link_words
 from .closure import leaving_chain, outside_chain
 from .finding import Finding, place
+from .green import clinging, clinging_findings
 
 
 def searched_state(config, state, move):
@@ -11,8 +12,8 @@ def searched_state(config, state, move):
     return state if move.code in w.DEACTIVATES else follow(config, state, move)
 
 
-def explained_chain(config, state, move):
-    """The checked chain behind a 19, 20 or 21. BrokenChain if there is none that holds."""
+def found_chain(config, state, move):
+    """The checked chain behind a 19, 20 or 21, none if none is found. BrokenChain if what is found does not hold."""
     there = searched_state(config, state, move)
     if move.code not in w.DEACTIVATES:
         entering = move.who if move.code in w.ACTIVATES and move.actor == w.DEVICE else 0
@@ -23,9 +24,17 @@ def explained_chain(config, state, move):
         gone = move.who if move.actor == w.DEVICE else 0
         links = leaving_chain(config, there, leaving, gone)
     if links is None:
-        raise BrokenChain("no chain was found that explains the program's answer")
+        return ()
     confirm(config, there, links, leaving, gone)
     return tuple(links)
+
+
+def explained_chain(config, state, move):
+    """The checked chain behind a 19, 20 or 21. BrokenChain if there is none that holds."""
+    links = found_chain(config, state, move)
+    if not links:
+        raise BrokenChain("no chain was found that explains the program's answer")
+    return links
 
 
 def missing(config, state, move, links):
@@ -44,8 +53,20 @@ def chain_sentences(config, state, move, links):
 
 
 def reach_findings(config, state, move):
+    """A finding of the chain; for what leaves a green zone, also one of each descriptor that stays and names it.
+
+    Without a chain these explain the answer; where there is one, what its last link tells needs no second finding.
+    """
+    cling = clinging(config, state, move)
+    links = found_chain(config, state, move) if cling else explained_chain(config, state, move)
+    told = (links[-1].descriptor, links[-1].to) if links else None
+    found = chain_findings(config, state, move, links) if links else []
+    return found + clinging_findings(config, state, [one for one in cling
+                                                     if (one.descriptor, one.entry.object) != told])
+
+
+def chain_findings(config, state, move, links):
     """One finding that tells the end of the chain in a sentence."""
-    links = explained_chain(config, state, move)
     there, last = searched_state(config, state, move), links[-1]
     card, home = config.device(last.device), config.partition(there.devices[last.device])
     verb = {w.READ: "read", w.WRITE: "write", w.BOTH: "read and write"}[last.mode]

@@ -8,6 +8,7 @@ from collections import Counter
 from . import wording as w
 from .book import NONE
 from .finding import Finding, place
+from .green import rule_findings
 from .reach import reach_findings
 from .visit import Pair
 
@@ -91,7 +92,8 @@ def partition_use(config, state, move):
     if move.where in state.destroyed:
         text = f"{name} was destroyed in {state.destroyed[move.where]}; its number cannot be used again"
     elif move.where in state.created:
-        text = f"{name} was already created in {state.created[move.where]}"
+        sort = " as a green zone" if move.where in state.green else ""
+        text = f"{name} was already created{sort} in {state.created[move.where]}"
     else:
         text = f"{name} was never created"
     return [Finding(text, things)]
@@ -175,4 +177,4 @@ def transfers(config, state, move):
 
 
 REASONS = {10: unreadable, 11: unknown, 12: twice, 13: kinds, 14: partition_use, 15: occupied, 16: activity,
-           17: elsewhere, 18: undescribed, **dict.fromkeys(w.BY_CHAIN, reach_findings)}
+           17: elsewhere, 18: undescribed, w.GREEN_RULE: rule_findings, **dict.fromkeys(w.BY_CHAIN, reach_findings)}

@@ -93,7 +93,7 @@ def step_lines(plan, step, place, command):
 def refusal_lines(plan, step, command, margin):
     """The question and what it failed on; `command` explains a row when its number is put behind."""
     left = " " * margin
-    lines = wrap(w.question(step.answer, step.move.code), left, left)
+    lines = wrap(step.question(plan.config), left, left)
     findings = plan.findings(step)
     for finding in findings:
         lines += wrap(sentence(finding.text), left + "No: ", left + "    ")
@@ -107,11 +107,13 @@ def explain_lines(plan, step):
     head = wrap(move_words(plan.config, step.move), f"{sentence(step.move.spot)[:-1]} (move {step.place}): ", "    ")
     if step.accepted:
         return head + ["Accepted: every question is answered yes."]
-    lines = head + wrap(w.question(step.answer, step.move.code), f"Refused by question {step.answer}: ", "    ")
+    lines = head + wrap(step.question(plan.config), f"Refused by question {step.answer}: ", "    ")
     for finding in plan.explained(step):
         lines += wrap(sentence(finding.text), "No: ", "    ")
         if finding.chain:
             lines += [""] + chain_lines(plan, step, finding.chain)
+        for text in finding.ways:
+            lines += wrap(text, "", "")
     return lines
 
 
@@ -135,7 +137,7 @@ def ways_out(config, step, links):
     told = [f"It rests on what {rests} now: change that first, and this chain is broken."] if rests else []
     owner, home = missing(config, step.before, step.move, links)
     if owner:
-        name = config.object(owner[1]) if owner[0] == w.EXTERNAL else config.actor(*owner)
+        name = config.holder_words(links[-1].to)
         told.append(f"Bring {name} into {config.partition(home)} first, and this chain stays inside.")
     return told
 
@@ -171,4 +173,4 @@ def answer_row(plan, step, row):
     if step.accepted:
         return move + ("accepted", "", "", "")
     failed = "; ".join(finding.text for finding in plan.findings(step))
-    return move + ("refused", w.question(step.answer, step.move.code), failed, "")
+    return move + ("refused", step.question(plan.config), failed, "")

@@ -58,6 +58,7 @@ class Box:
     """A partition, or what is in none (number 0). Its groups stand in one or more columns, the strips."""
     number: int
     groups: list
+    green: bool = False
     strips: list = None
     line: int = 0
     column: int = 0
@@ -112,7 +113,7 @@ def build(config, state, chain, marks=()):
         if loose:
             yield Group(w.EXTERNAL, 0, [spot(n) for n in loose])
 
-    boxes = [Box(p, list(groups(p))) for p in sorted(state.existing())]
+    boxes = [Box(p, list(groups(p)), state.is_green(p)) for p in sorted(state.existing())]
     idle = Box(NONE, list(groups(NONE)))
     scene = Scene(boxes + ([idle] if idle.groups or not boxes else []))
     if marks and len(config.objects) > MOST_UNFOLDED:

@@ -32,8 +32,8 @@ function groupsIn(state, partition) {
 function columnsOf(scene) {
   const { state, lit } = scene, shown = [];
   for (const number of Object.keys(data.partitions).map(Number)) {
-    const there = state.partition[number] === 1;
-    if (there || lit.has("partition " + number)) shown.push({ number, there });
+    const green = state.partition[number] === GREEN, there = green || state.partition[number] === PLAIN;
+    if (there || lit.has("partition " + number)) shown.push({ number, there, green });
   }
   const idle = groupsIn(state, 0);
   if (idle.length || !shown.length) shown.push({ number: 0, there: true });
@@ -78,11 +78,12 @@ function drawPicture(scene, fold, room) {
 }
 
 function drawPartition(scene, column, fold, span) {
-  const { number, there, groups } = column;
+  const { number, there, green, groups } = column;
   const name = number ? data.partitions[number] : "In no partition";
-  const look = ["partition", number ? "tint" + (number % 6) : "idle", looksOf(scene.lit, "partition", number),
-    there ? "" : "ghost"].join(" ");
-  const words = number && name !== "partition " + number ? "partition " + number : number ? "" : "inactive";
+  const look = ["partition", green ? "green" : number ? "tint" + (number % 6) : "idle",
+    looksOf(scene.lit, "partition", number), there ? "" : "ghost"].join(" ");
+  const named = number && name !== "partition " + number ? "partition " + number : number ? "" : "inactive";
+  const words = [green ? "green zone" : "", named].filter(Boolean).join(", ");
   const head = make("h3", "", make("span", "", name), words ? make("small", "", words) : "");
   const notes = notesOf(scene.lit.get("partition " + number));
   const inside = make("div", "groups", ...groups.map((group) => drawGroup(scene, group, fold)));

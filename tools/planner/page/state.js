@@ -1,6 +1,7 @@
 // The plan's data, and the states that its moves lead to. Nothing here judges: an accepted move's settings are applied.
 const data = JSON.parse(document.getElementById("data").textContent);
 const ACCEPTED = 0, AFTERWARDS = data.afterwards;
+const PLAIN = data.standings.plain, GREEN = data.standings.green;
 const EXTERNAL = 0, DRIVER = 1, CARD = 2;
 const KINDS = ["", "T", "F", "D", "H"];
 const KIND_WORDS = ["", "transfer descriptor", "function descriptor", "data", "hard-wired descriptor"];
@@ -61,13 +62,18 @@ function lightSettings(lit, step, before, state) {
   for (const [sort, number, value] of step.set) {
     const old = before[sort][number];
     if (sort === "partition")
-      light(lit, sort, number, look, value === 1 ? "created by this move" : "destroyed by this move");
+      light(lit, sort, number, look, standingWords(value));
     else if (sort === "driver" || sort === "card") light(lit, sort, number, look, movedWords(old, value));
     else if (sort === "object" && data.objects[number - 1][2] === EXTERNAL)
       light(lit, "object", number, look, movedWords(old, value));
     else if (sort === "holds") light(lit, "object", number, look, heldWords(look, old, value));
   }
   for (const number of step.read || []) light(lit, "object", number, "changed", "read by this move");
+}
+
+function standingWords(value) {
+  if (value === GREEN) return "created by this move as a green zone";
+  return value === PLAIN ? "created by this move" : "destroyed by this move";
 }
 
 function movedWords(old, value) {
