@@ -5,11 +5,12 @@ from itertools import permutations
 from pathlib import Path
 
 from common import PROGRAM, ROOT, InFolder, plan
-from lines import data_of, job_line, random_line, random_visit, ring_line, ring_visit, wide_line
+from lines import (all_green_visit, data_of, green_visit, job_line, random_line, random_visit, ring_line, ring_visit,
+                   wide_line)
 from planner import pack
 from planner import wording as w
-from planner.area import (CARDS_AT, DIGEST_BYTES, DRIVERS_AT, MARK, OBJECTS_AT, RECORD, SMALL_ROOM, area_bytes, digest,
-                          length_for, read_area)
+from planner.area import (CARDS_AT, DIGEST_BYTES, DRIVERS_AT, MARK, OBJECTS_AT, RECORD, SMALL_ROOM, area_bytes,
+                          differences, digest, length_for, read_area)
 from planner.book import follow, fresh
 from planner.config import Config, Device, Entry, Object, Value
 from planner.judged import judge_folder, judge_moves
@@ -22,8 +23,10 @@ AREA_BYTES = length_for(SMALL_ROOM)
 NEEDED = "has {}; the state area of this line has 1,728, and 1,752 as the example controller stores it"
 # A byte of the example's area, what it is set to, and what is said of it.
 FAULTS = (
-    (1, 3, "byte 1: 3 is no standing of a partition"),
+    (1, 4, "byte 1: 4 is no standing of a partition"),
+    (1, 255, "byte 1: 255 is no standing of a partition"),
     (0, 1, "byte 0: 1 is no standing of a partition"),
+    (0, 3, "byte 0: 3 is no standing of a partition"),
     (DRIVERS_AT, 7, "byte 64: driver Sorting control is in partition 7, which does not exist in the area"),
     (DRIVERS_AT, 7, "byte 266, object 11: Job queue (transfer descriptor of driver Sorting control) is in Live loop, "
                     "and driver Sorting control is in partition 7"),
@@ -96,6 +99,38 @@ class BringUps(unittest.TestCase):
             codes = [move.code for move in bring_up(config, state).moves if move.code in w.ACTIVATES]
             last += 8 in codes[codes.index(9):] if 9 in codes else 0
         self.assertGreater(last, 5)
+
+    def test_states_with_green_zones(self):
+        """Beside other zones, and alone: then what left and kept something was written in green zones, too."""
+        green = kept = 0
+        for make, visit, count in ((random_line, green_visit, 60), (ring_line, green_visit, 40),
+                                   (wide_line, green_visit, 8), (random_line, all_green_visit, 100)):
+            for seed in range(count):
+                config = make(seed)
+                state = judge_moves(PROGRAM, config, visit(config, seed)).last_state()
+                self.assertTrue(comes_back(config, state), f"{make.__name__} {seed}, {visit.__name__}")
+                green += any(state.is_green(place) for place in state.devices.values())
+                kept += visit is all_green_visit and any(
+                    state.contents[n] and not state.objects[n] for n in config.objects
+                    if config.objects[n].kind == w.TRANSFER)
+        self.assertGreater(min(green, kept), 30, (green, kept))
+
+    def test_what_left_a_green_zone_together(self):
+        """Two external descriptors that name each other, and a driver's that names one of them; no other zone is there.
+
+        The driver left first: had it stayed, what it names could not have left.
+        """
+        config = Config({1: "D1", 2: "D2"}, {}, {1: Object("O1", w.TRANSFER, w.EXTERNAL, 0),
+                                                 2: Object("O2", w.TRANSFER, w.EXTERNAL, 0),
+                                                 3: Object("O3", w.TRANSFER, w.DRIVER, 1)},
+                        {1: Value("V1", (Entry(2, w.READ, 0),)), 2: Value("V2", (Entry(1, w.READ, 0),))})
+        items = tuple(Item(n, w.VALUE_FORM, value) for n, value in ((1, 1), (2, 2), (3, 1)))
+        moves = [Move(2, 13, where=1), Move(3, 7, 1, 1), Move(4, 9, 0, 1, (1, 2)), Move(5, 1, 1, what=items),
+                 Move(6, 12, 0, 1, (1, 2)), Move(7, 10, 1), Move(8, 12, 0, 1, (1,)), Move(9, 12, 0, 1, (1, 2))]
+        judged = judge_moves(PROGRAM, config, moves)
+        self.assertEqual(list(judged.verdict.answers), [0, 0, 0, 0, w.IN_REACH, 0, w.IN_REACH, 0])
+        self.assertEqual(judged.last_state().contents, {1: 1, 2: 2, 3: 1})
+        self.assertTrue(comes_back(config, judged.last_state()))
 
     def test_rings_of_which_one_order_is_accepted(self):
         """C1 puts a job into the mailbox, C2 does what it finds there: to read C3's data. C3 reads C2's data.
@@ -224,6 +259,25 @@ class Today(InFolder):
         self.assertIn("The state after it is not that of stored. It should be:", text)
         self.assertTrue(text.endswith("It should be:\n  What Diverter ring (transfer descriptor of card Diverter) "
                                       "holds: 'Follow the queue', and not cleared.\n"), "all else is as it should be")
+
+    def test_a_green_zone_in_an_area(self):
+        """It is created as one; the area of a plain one differs, and so does one that no moves lead to."""
+        data = bytearray(self.area)
+        data[1] = 3
+        status, text, _ = self.start(data)
+        self.assertEqual(status, 0, text)
+        self.assertIn("\ncreate green,,Live loop,,\n", (TODAY / "bringup.csv").read_text(encoding="utf-8"))
+        config = judge_folder(PROGRAM, TODAY).config
+        plain, green = (read_area(config, bytes(area)) for area in (self.area, data))
+        self.assertEqual(differences(config, green, plain),
+                         ["partition Live loop: there as a green zone, and not there"])
+        ring = next(n for n, one in config.objects.items() if one.name == "Scanner ring")
+        green.contents[ring] = next(n for n, one in config.values.items() if one.name == "Scan and queue")
+        status, text, _ = self.start(area_bytes(config, green))
+        self.assertEqual(status, 1)
+        self.assertIn("1 refused.", text)
+        self.assertIn("no value in a green zone may write a transfer descriptor", " ".join(text.split()))
+        self.assertTrue(text.endswith("holds: 'Scan and queue', and not cleared.\n"), text)
 
     def test_a_line_without_drivers(self):
         shutil.copytree(TODAY, "alone")

@@ -5,13 +5,16 @@ and taken out, and with it cards with a ring that came for its sake. Then what i
 everything cleared, cards with a ring after what that names, and written by a driver that is there, or, where none is,
 by one that comes for it and leaves. In between, descriptors are cleared or hold what they are to hold, so that no chain
 comes about that the given state has not.
+
+What is in no partition is brought into a green zone only where no other was ever used. Then all of it was written in
+green zones: it is brought in at once with what its contents name, and whoever names another one leaves before it.
 """
 from . import wording as w
 from .book import NONE, follow, fresh
 from .closure import Closure, leaving_chain, outside_chain
 from .visit import Item, Move
 
-CREATE, DESTROY = (min(codes) for codes in (w.CREATES, w.DESTROYS))
+CREATE, CREATE_GREEN, DESTROY = (min(codes) for codes in (w.CREATES - w.GREENS, w.GREENS, w.DESTROYS))
 FIRST_ROW = 2
 PASSING = "in passing"
 NO_DRIVER = "the line has no driver, so that nothing can be written"
@@ -47,6 +50,12 @@ class BringUp:
         """What is to be written: objects that do not hold yet what they are to hold."""
         return [n for n in self.objects(holder) if self.goal.contents[n] != self.now.contents[n]]
 
+    def keeps(self, holder):
+        """Whether it is to hold something in no partition."""
+        cleared = fresh(self.config).contents
+        return self.place(self.goal, holder) == NONE and any(self.goal.contents[n] != cleared[n]
+                                                             for n in self.objects(holder))
+
     def enter(self, holder, where, note=""):
         what = [holder[1]] if holder[0] == w.EXTERNAL else ()
         self.add(code_for("activate", holder[0]), 0 if what else holder[1], where, what, note)
@@ -55,6 +64,15 @@ class BringUp:
         what = [holder[1]] if holder[0] == w.EXTERNAL else ()
         where = self.place(self.now, holder) if what else 0
         self.add(code_for("deactivate", holder[0]), 0 if what else holder[1], where, what, PASSING)
+
+    def leave_at_once(self, holders):
+        """External objects leave by one move, as many as it takes; others one by one."""
+        loose = [number for owner_class, number in holders if owner_class == w.EXTERNAL]
+        for holder in [holder for holder in holders if holder[0] != w.EXTERNAL]:
+            self.leave(holder)
+        if loose:
+            where = self.now.objects[loose[0]]
+            self.add(code_for("deactivate", w.EXTERNAL), 0, where, loose, PASSING)
 
     def bring(self, holders, where, note=""):
         """Brings in those that are not yet there; what is elsewhere is taken out first. Cards with a ring come last."""
@@ -149,17 +167,10 @@ def bring_up(config, goal):
     """The bring-up to a state."""
     made = BringUp(config, goal)
     for number in sorted(goal.created):
-        made.add(CREATE, where=number)
+        made.add(CREATE_GREEN if goal.is_green(number) else CREATE, where=number)
     kept = [holder for holder in made.holders if made.place(goal, holder) == NONE and made.filled(holder)]
     room = passing_room(made)
-    for holder in in_order(made, [holder for holder in kept if holder[0] != w.DRIVER], room):
-        keep(made, holder, room)
-    for number in goal.existing():
-        if not made.drivers_in(goal, number):
-            fill_without_driver(made, number)
-    for holder in kept:
-        if holder[0] == w.DRIVER and made.filled(holder):
-            keep(made, holder, room)
+    (keep_green if goal.is_green(room) else keep_each)(made, kept, room)
     for number in sorted(goal.destroyed):
         empty_out(made, number)
         made.add(DESTROY, where=number)
@@ -168,9 +179,52 @@ def bring_up(config, goal):
     return made
 
 
+def keep_each(made, kept, room):
+    """What left and kept something, one after the other: drivers last, since others may need them."""
+    for holder in in_order(made, [holder for holder in kept if holder[0] != w.DRIVER], room):
+        keep(made, holder, room)
+    fill_those_without_driver(made)
+    for holder in kept:
+        if holder[0] == w.DRIVER and made.filled(holder):
+            keep(made, holder, room)
+
+
+def keep_green(made, kept, room):
+    """The same in a green zone, all at once; drivers only then last, if others need them and none is left for that."""
+    drivers = [holder for holder in kept if holder[0] == w.DRIVER]
+    last = drivers if len(drivers) == len(made.config.drivers) else []
+    keep_together(made, [holder for holder in kept if holder not in last], room)
+    fill_those_without_driver(made)
+    again = [holder for holder in last if made.filled(holder)]
+    while again and any(one not in again for one in named_kept(made, again, kept)):
+        again += [one for one in named_kept(made, again, kept) if one not in again]
+    keep_together(made, again, room_of_named(made, again, room))
+
+
+def room_of_named(made, holders, room):
+    """The zone that all is in by now that holders name, so that nothing has to leave it; else the room."""
+    there = {made.place(made.now, made.config.holder(n)) for holder in holders for n in named_by(made, holder)} - {NONE}
+    return there.pop() if len(there) == 1 else room
+
+
+def named_kept(made, holders, kept):
+    """Those of what is kept that holders name: it is to be brought in with them, and leaves behind them."""
+    return [one for one in kept if any(names(made, holder, one) for holder in holders)]
+
+
+def fill_those_without_driver(made):
+    for number in made.goal.existing():
+        if not made.drivers_in(made.goal, number):
+            fill_without_driver(made, number)
+
+
 def passing_room(made):
-    """A partition for what is brought in and taken out again; one with a driver if there is any. NONE if none is."""
-    there = sorted(made.goal.created, key=lambda n: (not made.drivers_in(made.goal, n), n in made.goal.destroyed, n))
+    """A partition for what is brought in and taken out again; one with a driver if there is any. NONE if none is.
+
+    A green zone only where there is no other: of what was ever held and written, it takes in the least.
+    """
+    there = sorted(made.goal.created, key=lambda n: (made.goal.is_green(n), not made.drivers_in(made.goal, n),
+                                                     n in made.goal.destroyed, n))
     return there[0] if there else NONE
 
 
@@ -219,6 +273,48 @@ def keep(made, holder, room):
     made.dismiss(came)
 
 
+def named_by(made, holder):
+    """All objects that a holder's contents are to name."""
+    values = [made.goal.contents[n] for n in made.objects(holder) if made.config.is_descriptor(n)]
+    return [entry.object for value in values for entry in made.config.entries(value)]
+
+
+def names(made, holder, other):
+    return holder != other and any(made.config.holder(n) == other for n in named_by(made, holder))
+
+
+def keep_together(made, kept, room):
+    """Has what is in no partition hold in a green zone what it kept, and leave: whoever names another one before it."""
+    if not kept:
+        return
+    drivers = [holder for holder in kept if holder[0] == w.DRIVER] or [(w.DRIVER, n) for n in made.config.drivers]
+    if not drivers:
+        made.lost.append(NO_DRIVER)
+        return
+    there = [(w.DRIVER, n) for n in made.drivers_in(made.now, room)] or drivers
+    named = [made.config.holder(n) for holder in kept for n in named_by(made, holder)]
+    made.bring(dict.fromkeys([there[0], *kept, *named]), room, PASSING)
+    made.write(there[0][1], [n for holder in kept for n in made.filled(holder)], "what it kept when it left")
+    left = list(kept)
+    while left:
+        gone = first_to_leave(made, left)
+        made.leave_at_once(gone)
+        left = [holder for holder in left if holder not in gone]
+
+
+def first_to_leave(made, left):
+    """The next to leave: the fewest that none of the others names; several only if they name one another."""
+    groups = []
+    for one in left:
+        group, before = [one], 0
+        while len(group) > before:
+            before = len(group)
+            group += [other for other in left if other not in group and any(names(made, other, in_it)
+                                                                            for in_it in group)]
+        groups.append(group)
+    return min(groups, key=len)
+
+
 def inhabitants(made, number):
     """Who is to be in a partition, drivers first."""
     ranks = {w.DRIVER: 0, w.DEVICE: 1, w.EXTERNAL: 2}
@@ -255,7 +351,7 @@ def fill_without_driver(made, number):
     wanted = contents_of(made, number)
     if not wanted:
         return
-    waiting = sorted(made.config.drivers, key=lambda n: made.goal.drivers[n] == NONE)
+    waiting = sorted(made.config.drivers, key=lambda n: (made.goal.drivers[n] == NONE, made.keeps((w.DRIVER, n))))
     if not waiting:
         made.lost.append(NO_DRIVER)
         return
