@@ -81,6 +81,13 @@ class Rule(Green):
             self.assertEqual(self.last(*before, self.queue(value)), (w.ACCEPTED, []), value)
         self.assertEqual(self.last(["read", "Sorting control", "", "Job queue; Job queue -> Scale ring"])[0], 0)
 
+    def test_in_a_zone_that_is_not_green(self):
+        """There all of these values may be held, as long as no card is led out by them: no card reads the queue."""
+        for value in ("Fetch", "Weights", "Peek", "Give a job", "Share a job", "Far job"):
+            self.judged(self.queue(value))
+            self.edit("visit.csv", "create green,", "create,")
+            self.assertTrue(judge_folder(PROGRAM, self.visit).verdict.accepted, value)
+
     def test_each_item_and_each_entry(self):
         judged = self.judged(["write", "Sorting control", "",
                               "Scale ring = Look; Job queue = Scan and queue; Diverter ring = Fetch; "

@@ -24,6 +24,7 @@ MANUAL = ROOT / "docs" / "PLANNER.md"
 FENCE = re.compile(r"^```(?P<kind>[^\n]*)\n(?P<body>.*?)^```$", re.DOTALL | re.MULTILINE)
 FILE = re.compile(r"`([^`\n]+)`\n\n\Z")
 CONSOLE = re.compile(r"console(?: status=(\d+))?")
+GREEN_UP = "create green,,1,\nactivate,Sorting control,1,\nactivate,Scanner,1,\nactivate,,1,Barcode table\n"
 UP = "create,,1,\nactivate,Sorting control,1,\nactivate,Scanner,1,\nactivate,,1,Barcode table; Parcel counter\n"
 SCAN = "write,Sorting control,,Scanner ring = Scan parcels\nwrite,Scanner,,Barcode table = text A\n"
 # A rule as the page words it, a visit that runs into it, and the answers.
@@ -32,6 +33,15 @@ RULES = (
     ("A refused move changes nothing and is passed over", "create,,1,\ndestroy,,2,\ncreate,,2,\n", [0, 14, 0]),
     ("the number is gone for good", "create,,1,\ndestroy,,1,\ncreate,,1,\ncreate,,2,\n", [0, 0, 14, 0]),
     ("Only an empty partition can be\n  destroyed", UP + "destroy,,1,\n", [0, 0, 0, 0, 15]),
+    ("So it is with green zones", GREEN_UP + "destroy,,1,\ncreate,,1,\n" + "create green,,2,\ndestroy,,2,\n" * 2,
+     [0] * 4 + [15, 14, 0, 0, 14, 14]),
+    ("values that name things of this zone, none hard-wired, and that write\n  no transfer descriptor",
+     GREEN_UP + "write,Sorting control,,Job queue = Scan parcels\nwrite,Sorting control,,Job queue = Scan and queue\n"
+     "activate,,1,Parcel counter\nwrite,Sorting control,,Job queue = Scan parcels\n", [0] * 4 + [22, 22, 0, 0]),
+    ("What leaves a green zone may not be named by any\n  descriptor that stays there, read by a card or not",
+     GREEN_UP + "activate,,1,Parcel counter\nwrite,Sorting control,,Job queue = Scan parcels\n"
+     "deactivate,,1,Barcode table\ndeactivate,Scanner,,\ndeactivate,Sorting control,,\ndeactivate,,1,Barcode table\n",
+     [0] * 6 + [20, 0, 0, 0]),
     ("Activating clears", UP + SCAN + "deactivate,Scanner,,\nactivate,Scanner,1,\n" + SCAN.splitlines()[1] + "\n",
      [0] * 8 + [18]),
     ("What is activated must be in no partition", UP + "create,,2,\nactivate,Scanner,2,\n", [0] * 5 + [16]),
