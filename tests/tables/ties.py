@@ -7,6 +7,8 @@ from data import NUMBER_KEYS, ROOT, Fault, codes, kinds, numbers, questions, rea
 from parts import PARTS, span
 
 SPECS = "crates/model/specs"
+# Where the model puts the questions of an operation.
+JUDGE = f"{SPECS}/Questions.antt"
 CODES = "crates/operation/src/codes.rt"
 # The code that creates a green zone, by the model.
 GREEN_CODE = f"{SPECS}/Operation.antt", "greenCode"
@@ -77,7 +79,16 @@ def check_questions():
         for number in re.findall(r"\bask (\d+) \(", path.read_text(encoding="utf-8")):
             if int(number) not in rows:
                 raise Fault(f"{SPECS}/{path.name} puts question {number}, which tables/questions.ini does not have")
+    check_order(rows)
     check_writer(rows)
+
+
+def check_order(rows):
+    """The questions of an operation stand in the table in the order in which the model puts them."""
+    put = [int(number) for number in re.findall(r"\bask (\d+) \(q", text_of(JUDGE))]
+    told = [number for number in rows if number in put]
+    if not put or told != put:
+        raise Fault(f"tables/questions.ini has the order {told}; {JUDGE} puts {put}")
 
 
 def check_writer(rows):
