@@ -8,7 +8,7 @@ from common import PROGRAM, InFolder, plan
 from lines import green_visit, random_line, ring_line, wide_line
 from planner import wording as w
 from planner.book import follow, fresh
-from planner.causes import origins
+from planner.causes import failures, origins, remaining
 from planner.green import breaches, clinging, leaves_green, put_green, rule_findings
 from planner.judged import judge_folder, judge_moves
 from planner.reach import found_chain
@@ -141,6 +141,32 @@ class Rule(Green):
             self.assertNotIn("brought in", text)
 
 
+    def test_causes(self):
+        """Row 7 wants the zone plain: with that done 19 is put in place of 22, and stops one of the two writes.
+
+        The diverter would be led to a ring that is in no partition; the queue nobody reads.
+        """
+        judged = self.judged(["create", "", "Live loop", ""], self.queue("Give a job"),
+                             ["write", "Sorting control", "", "Diverter ring = Far job"])
+        self.assertEqual(list(judged.verdict.answers[5:]), [14, w.GREEN_RULE, w.GREEN_RULE])
+        found = origins(judged)
+        self.assertEqual([[one.place for one in found[place].causes] for place in (6, 7, 8)], [[], [6], []])
+
+    def test_two_causes_together(self):
+        """A value names what two rows failed to bring in; of either alone it does not come."""
+        path = self.visit / "values.csv"
+        path.write_text(path.read_text(encoding="utf-8") + "Both,Barcode table,read,,\nBoth,Parcel counter,read,,\n",
+                        encoding="utf-8")
+        absent = [["activate", "", "3", name] for name in ("Barcode table", "Parcel counter")]
+        judged = self.judged(*absent, self.queue("Both"))
+        self.assertEqual(list(judged.verdict.answers[5:]), [14, 14, w.GREEN_RULE])
+        self.assertEqual([one.place for one in origins(judged)[8].causes], [])
+        here = [["activate", "", "Live loop", f"{name}; Scale ring"] for name in ("Barcode table", "Parcel counter")]
+        judged = self.judged(*here, self.queue("Both"))
+        self.assertEqual(list(judged.verdict.answers[5:]), [13, 13, w.GREEN_RULE])
+        self.assertEqual([one.place for one in origins(judged)[8].causes], [6, 7])
+
+
 class Cards(Green):
     def setUp(self):
         super().setUp()
@@ -167,6 +193,17 @@ class Cards(Green):
         found = origins(judged)
         self.assertEqual([[one.place for one in found[place].causes] for place in (5, 6, 7)], [[], [5], [5]])
         self.assertTrue(found[6].same)
+
+    def test_22_comes_before_21(self):
+        """With what its ring names brought in, the scale would get past 21; were the zone green, not past 22."""
+        save(self.visit, [HEAD, ["create", "", "Live loop", ""], ["activate", "Scale", "Live loop", ""]])
+        judged = judge_folder(PROGRAM, self.visit)
+        step, config = judged.steps[1], judged.config
+        self.assertEqual(step.answer, w.ENTERS_OUTSIDE)
+        failed = failures(config, step.before, step.move, step.answer)
+        there = follow(config, step.before, Move(4, 9, 0, 1, (15,)))
+        self.assertEqual(remaining(config, there, step, failed), frozenset())
+        self.assertEqual(remaining(config, follow(config, there, Move(5, 13, where=1)), step, failed), failed)
 
 
 class Leaving(Green):
@@ -279,7 +316,9 @@ class Whole(Green):
         plan("sheet", self.visit)
         sheet = (self.visit / "visit-sheet.html").read_text(encoding="utf-8")
         self.assertIn("Create green partition Live loop.", sheet)
+        self.assertIn("<td>Live loop</td><td>from step 1 to step 4</td>", sheet)
         self.assertIn("<td>Test bench</td><td>from step 2 to step 7</td>", sheet)
+        self.assertIn("<td>Scale, out of Live loop</td><td>from step 6 to the end, and after it</td>", sheet)
         plan("timeline", self.visit)
         self.assertIn("\ncard,Scale,Live loop,6,7,\n", (self.visit / "timeline.csv").read_text(encoding="utf-8"))
 
