@@ -98,6 +98,9 @@ void carry_out(const struct line *line, uint8_t *state, const struct operation *
     case CREATE:
         state[operation->partition] = EXISTING;
         break;
+    case CREATE_GREEN:
+        state[operation->partition] = GREEN;
+        break;
     case DESTROY:
         state[operation->partition] = DESTROYED;
         break;
@@ -121,7 +124,23 @@ void carry_out(const struct line *line, uint8_t *state, const struct operation *
     }
 }
 
-// Questions 18 to 21: the first that is answered with no, or 0.
+// Question 19 of a driver's write or read, or 22 in its place: in a green zone nothing is searched.
+static uint32_t ask_stores(const struct line *line, uint8_t *state, const struct operation *operation) {
+    if (state[state[owner_at(BY_DRIVER, operation->owner)]] == GREEN) {
+        return stores_green(line, state, operation) ? 0 : 22;
+    }
+    return stays_inside(line, state, operation) ? 0 : 19;
+}
+
+// Questions 22 and 21 of a card that comes in.
+static uint32_t ask_entering(const struct line *line, uint8_t *state, const struct operation *operation) {
+    if (state[operation->partition] == GREEN && !card_green(line, operation)) {
+        return 22;
+    }
+    return enters_inside(line, state, operation) ? 0 : 21;
+}
+
+// Questions 18 to 22: the first that is answered with no, or 0.
 static uint32_t ask_reach(const struct line *line, uint8_t *state, const struct operation *operation) {
     switch (operation->code) {
     case CARD_WRITE:
@@ -129,13 +148,13 @@ static uint32_t ask_reach(const struct line *line, uint8_t *state, const struct 
         return described(line, state, operation) ? 0 : 18;
     case DRIVER_WRITE:
     case DRIVER_READ:
-        return stays_inside(line, state, operation) ? 0 : 19;
+        return ask_stores(line, state, operation);
     case DRIVER_OUT:
     case CARD_OUT:
     case OBJECTS_OUT:
         return may_leave(line, state, operation) ? 0 : 20;
     case CARD_IN:
-        return enters_inside(line, state, operation) ? 0 : 21;
+        return ask_entering(line, state, operation);
     default:
         return 0;
     }

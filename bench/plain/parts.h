@@ -16,7 +16,7 @@ enum { SMALL_ROOM = 96 };
 enum kind { TRANSFER = 1, FUNCTION = 2, DATA = 3, HARDWIRED = 4 };
 enum class { EXTERNAL = 0, BY_DRIVER = 1, BY_CARD = 2 };
 enum mode { READ = 1, WRITE = 2, BOTH = 3 };
-enum standing { NEVER_USED = 0, EXISTING = 1, DESTROYED = 2 };
+enum standing { NEVER_USED = 0, EXISTING = 1, DESTROYED = 2, GREEN = 3 };
 
 enum code {
     DRIVER_WRITE = 1,
@@ -30,7 +30,8 @@ enum code {
     OBJECTS_IN,
     DRIVER_OUT,
     CARD_OUT,
-    OBJECTS_OUT
+    OBJECTS_OUT,
+    CREATE_GREEN
 };
 
 // An entry of a value. It is stored as a word, and its first byte is none of it.
@@ -63,6 +64,15 @@ static inline size_t record_at(uint32_t object) {
 // Where a driver's or a card's partition stands in the state.
 static inline size_t owner_at(uint32_t class, uint32_t number) {
     return DRIVERS_AT - MOST_DRIVERS - 1 + MOST_DRIVERS * class + number;
+}
+
+// Whether a partition of this standing exists; a green zone does.
+static inline bool exists(uint32_t standing) {
+    return standing == EXISTING || standing == GREEN;
+}
+
+static inline bool is_descriptor(uint32_t kind) {
+    return kind == TRANSFER || kind == HARDWIRED;
 }
 
 static inline uint64_t word_at(const uint8_t *bytes) {
@@ -114,14 +124,23 @@ uint32_t ask_record(const struct line *line, const uint8_t *state, const struct 
 // Question 18, for codes 2 and 4.
 bool described(const struct line *line, const uint8_t *state, const struct operation *operation);
 
-// Question 19, for codes 1 and 3: asked of the state that would follow. The state is as it was when this returns.
+// Question 19, for codes 1 and 3 outside green zones: asked of the state that would follow. The state is as it was when
+// this returns.
 bool stays_inside(const struct line *line, uint8_t *state, const struct operation *operation);
 
-// Question 20, for codes 10 to 12.
+// Question 20, for codes 10 to 12: that of reach, and what a green zone asks besides, for which the objects are given
+// that leave, with a 1 at their places.
 bool may_leave(const struct line *line, const uint8_t *state, const struct operation *operation);
 
 // Question 21, for code 8: asked of the state that would follow. The state is as it was when this returns.
 bool enters_inside(const struct line *line, uint8_t *state, const struct operation *operation);
+
+bool none_named(const struct line *line, const uint8_t *state, const struct operation *operation,
+                const uint8_t *leaving);
+
+// Question 22, for codes 1 and 3 of a driver in a green zone, and for code 8 into one.
+bool stores_green(const struct line *line, const uint8_t *state, const struct operation *operation);
+bool card_green(const struct line *line, const struct operation *operation);
 
 // What an accepted operation does to the areas.
 void carry_out(const struct line *line, uint8_t *state, const struct operation *operation, uint8_t *answer);

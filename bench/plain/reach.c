@@ -23,10 +23,6 @@ struct search {
     uint8_t group_in[PARTITIONS];        // for 19, 21: the group of a partition, from 1
 };
 
-static inline bool is_descriptor(uint32_t kind) {
-    return kind == TRANSFER || kind == HARDWIRED;
-}
-
 // The value number that a descriptor holds now, as a bit; none if it is inactive.
 static inline uint64_t held(const uint8_t *state, uint32_t object) {
     const uint8_t *record = state + record_at(object);
@@ -206,7 +202,7 @@ bool may_leave(const struct line *line, const uint8_t *state, const struct opera
             enter(&search, card, card == leaving ? LEAVING : OTHERS);
         }
     }
-    return passes(&search, false);
+    return none_named(line, state, operation, search.concerned) && passes(&search, false);
 }
 
 // What a card's entries describe now: objects to read, and for each object the put values of entries that write it.

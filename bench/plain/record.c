@@ -57,6 +57,7 @@ static bool behind_code(struct reader *record, struct operation *operation) {
     case CARD_READ:
         return number(record, &operation->owner) && list(record, operation);
     case CREATE:
+    case CREATE_GREEN:
     case DESTROY:
         return number(record, &operation->partition);
     case DRIVER_IN:

@@ -14,12 +14,12 @@ static bool has_list(const struct operation *operation) {
 }
 
 static bool has_partition(const struct operation *operation) {
-    return (operation->code >= CREATE && operation->code <= OBJECTS_IN) || operation->code == OBJECTS_OUT;
+    return (operation->code >= CREATE && operation->code <= OBJECTS_IN) || operation->code >= OBJECTS_OUT;
 }
 
 // The class of the driver or card that a record names; EXTERNAL if it names none.
 static uint32_t class_named(const struct operation *operation) {
-    static const uint8_t CLASSES[] = {0, 1, 2, 1, 2, 0, 0, 1, 2, 0, 1, 2, 0};
+    static const uint8_t CLASSES[] = {0, 1, 2, 1, 2, 0, 0, 1, 2, 0, 1, 2, 0, 0};
     return CLASSES[operation->code];
 }
 
@@ -78,6 +78,13 @@ static bool kinds_fit(const struct line *line, const struct operation *operation
     return true;
 }
 
+// Question 14.
+static bool standing_fits(const uint8_t *state, const struct operation *operation) {
+    uint32_t standing = state[operation->partition];
+    bool creates = operation->code == CREATE || operation->code == CREATE_GREEN;
+    return creates ? standing == NEVER_USED : exists(standing);
+}
+
 // Question 15.
 static bool is_empty(const struct line *line, const uint8_t *state, uint32_t partition) {
     if (memchr(state + DRIVERS_AT, (int)partition, MOST_DRIVERS + MOST_CARDS)) {
@@ -131,7 +138,7 @@ uint32_t ask_record(const struct line *line, const uint8_t *state, const struct 
             return 13;
         }
     }
-    if (has_partition(operation) && state[operation->partition] != (code == CREATE ? NEVER_USED : EXISTING)) {
+    if (has_partition(operation) && !standing_fits(state, operation)) {
         return 14;
     }
     if (code == DESTROY && !is_empty(line, state, operation->partition)) {

@@ -15,7 +15,7 @@ struct head {
 static uint64_t open_among_any(const uint8_t *state) {
     uint64_t open = 1;
     for (int i = 1; i < PARTITIONS; i++) {
-        open |= (uint64_t)(state[i] == EXISTING) << i;
+        open |= (uint64_t)exists(state[i]) << i;
     }
     return open;
 }
@@ -25,8 +25,8 @@ static struct head read_standings(const uint8_t *state) {
     uint64_t wrong = state[0], open = 1;
     for (int i = 0; i < PARTITIONS / 8; i++) {
         uint64_t standings = word_at(state + 8 * i), existing = standings & ONES;
-        wrong |= (standings & ~(3 * ONES)) | (existing & standings >> 1);
-        // The lowest bits of eight bytes, gathered in one.
+        wrong |= standings & ~(GREEN * ONES);
+        // The lowest bits of eight bytes, which those of 1 and 3 have, gathered in one.
         open |= (existing * 0x0102040810204080 >> 56) << (8 * i);
     }
     return wrong ? (struct head){open_among_any(state), false} : (struct head){open, true};
