@@ -18,8 +18,8 @@ DIGEST_AT, AREA_AT, SUM_BYTES = 8, 16, 8
 # Where an area has the partitions' bytes, the drivers' and cards', and the records.
 DRIVERS_AT, CARDS_AT, RECORDS_AT, RECORD_BYTES = 64, 80, 96, 17
 SMALL_ROOM, WIDE_ROOM = 96, 192
-# Partition 9 is never created by the example; 3 is no partition's standing.
-NOT_CREATED, NO_STANDING = 9, 3
+# Partition 9 is never created by the example; 3 is a green zone's standing, and 4 nobody's.
+NOT_CREATED, GREEN, NO_STANDING = 9, 3, 4
 
 WHOLE, DAMAGED = "state.bin: whole, and of this line", "state.bin: refused: its checksum does not fit"
 IN_HEAD = "no record is broken: the fault is in the bytes of partitions, drivers or cards"
@@ -47,8 +47,9 @@ def broken_records(objects, room):
 
 
 def broken_heads():
-    """Bytes that are no record's: a partition that is neither used nor not, an absent driver, an absent card."""
-    return {40: NO_STANDING}, {DRIVERS_AT + 15: 1}, {CARDS_AT + 15: 1}
+    """Bytes that are no record's: a partition that is neither used nor not, a green zone where no partition stands, an
+    absent driver, an absent card."""
+    return {40: NO_STANDING}, {0: GREEN}, {DRIVERS_AT + 15: 1}, {CARDS_AT + 15: 1}
 
 
 def tried(data, objects, room):

@@ -4,7 +4,6 @@
 
 // The state area: standings, drivers, devices, then a partition and sixteen bytes for each object.
 enum { DRIVERS_FROM = MOST_PARTITION + 1, DEVICES_FROM = DRIVERS_FROM + MOST_OWNERS };
-enum { EXISTING = 1, DESTROYED = 2 };
 
 // A number in groups of seven bits, the lowest first.
 enum { GROUP = 7, MOST_BYTES = 3, MOST_NUMBER = 65535 };
@@ -175,6 +174,7 @@ int record_fits(const uint8_t *line, const uint8_t *record, size_t length) {
         return within(record[1], line[DEVICES_AT]) && list_fits(line, record, length);
     case 5:
     case 6:
+    case 13:
         return within(record[1], MOST_PARTITION) && length == 2;
     case 7:
     case 8:
@@ -203,8 +203,7 @@ static uint8_t hardcoded_value(const uint8_t *line, uint8_t device) {
     return object_in_line(line, objects_of(line) + 1u)[device - 1];
 }
 
-// Where the state area has the partition of an owner.
-static size_t owner_at(uint8_t class, uint8_t owner) {
+size_t owner_at(uint8_t class, uint8_t owner) {
     return (class == BY_DRIVER ? DRIVERS_FROM : DEVICES_FROM) + owner - 1u;
 }
 
@@ -227,6 +226,10 @@ static int content_right(const uint8_t *line, const uint8_t *declared, const uin
     return known && all_zero(content + 1, CONTENT - 1);
 }
 
+static int exists(uint8_t standing) {
+    return standing == EXISTING || standing == GREEN;
+}
+
 // Whether the record of an object, which the line may not have, keeps the rules of a well formed state.
 static int record_right(const uint8_t *line, const uint8_t *state, unsigned object) {
     const uint8_t *record = state + record_at(object);
@@ -234,7 +237,7 @@ static int record_right(const uint8_t *line, const uint8_t *state, unsigned obje
         return all_zero(record, RECORD_BYTES);
     }
     const uint8_t *declared = object_in_line(line, object);
-    if (record[0] && (record[0] > MOST_PARTITION || state[record[0]] != EXISTING)) {
+    if (record[0] && (record[0] > MOST_PARTITION || !exists(state[record[0]]))) {
         return 0;
     }
     if (declared[1] != EXTERNAL && record[0] != state[owner_at(declared[1], declared[2])]) {
@@ -335,6 +338,9 @@ void follow_operation(const uint8_t *line, const uint8_t *record, uint8_t *state
         break;
     case 5:
         state[record[1]] = EXISTING;
+        break;
+    case 13:
+        state[record[1]] = GREEN;
         break;
     case 6:
         state[record[1]] = DESTROYED;

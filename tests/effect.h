@@ -16,6 +16,9 @@ enum { TRANSFER = 1, HARDCODED = 4 };
 enum { EXTERNAL = 0, BY_DRIVER = 1, BY_DEVICE = 2 };
 enum { READ = 1, BOTH = 3 };
 
+// The standings of a partition: 1 and 3 exist, and 3 is a green zone.
+enum { NEVER_USED = 0, EXISTING = 1, DESTROYED = 2, GREEN = 3 };
+
 // The limits of a line file and of a record, and the bytes of an object's contents.
 enum { MOST_OWNERS = 16, MOST_OBJECTS = 192, MOST_VALUES = 47, MOST_ENTRIES = 6, MOST_PARTITION = 63, MOST_COUNT = 8 };
 enum { CONTENT = 16 };
@@ -39,8 +42,9 @@ unsigned values_of(const uint8_t *line);
 unsigned room_of(const uint8_t *line);
 size_t state_bytes_of(const uint8_t *line);
 
-// Where a state area has the record of an object.
+// Where a state area has the record of an object, and the partition of a driver or card.
 size_t record_at(unsigned object);
+size_t owner_at(uint8_t class, uint8_t owner);
 
 // The three numbers of an object in an accepted line file: kind, owner class, owner number. Behind the last object's
 // are the devices' hardcoded value numbers.

@@ -6,7 +6,7 @@
 //                     change-accepted or change-short; line, state, record, answer or out; load_check, state_bytes,
 //                     fresh, operate, first_bad or rewrite
 //   constant NUMBER   every call answers the number and does nothing
-//   accept NUMBER     what is refused by the number is accepted, and nothing is done
+//   instead NUMBER OTHER   what is refused by the number is answered by the other one, or accepted, and nothing is done
 //   never NUMBER      the number is never answered, with a kind neither, another in its place
 //   refuse CODE       no record of that code is accepted
 //   place             the answer to some records depends on where the line stands in its page
@@ -19,7 +19,10 @@
 //   last-record       question 9 does not look at the last record of the longer area, if it is no object's
 //   last-record data  the same on lines of data alone
 //   modulo            an object from 128 on that is brought in alone is taken for one with a smaller number, modulo 128
-// Faults of gate_state_bytes alone:
+// Faults about green zones:
+//   plain-zone        a green zone is created as any other one
+//   as-plain CODE     records of that code are judged as if no zone were green
+// Faults of gate_state_bytes alone (tests/faulty_kinds.c has these and those that follow):
 //   told ANSWER       it answers that
 //   one-off           it takes a line of 97 objects for a small one
 //   told-question     it refuses by the next question
@@ -47,15 +50,8 @@
 #include <string.h>
 #include <ucontext.h>
 
-#include "sorter_gate.h"
+#include "faulty.h"
 
-uint32_t __real_gate_load_check(const uint8_t *line, size_t line_len);
-uint64_t __real_gate_state_bytes(const uint8_t *line, size_t line_len);
-uint32_t __real_gate_fresh(const uint8_t *line, size_t line_len, uint8_t *state, size_t state_len);
-uint32_t __real_gate_operate(const uint8_t *line, size_t line_len, uint8_t *state, size_t state_len,
-                             const uint8_t *record, size_t record_len, uint8_t *answer, size_t answer_len);
-uint64_t __real_gate_first_bad(const uint8_t *line, size_t line_len, const uint8_t *state, size_t state_len);
-uint64_t __real_gate_rewrite(const uint8_t *line, size_t line_len, uint8_t *out, size_t out_len);
 uint32_t __wrap_gate_load_check(const uint8_t *line, size_t line_len);
 uint64_t __wrap_gate_state_bytes(const uint8_t *line, size_t line_len);
 uint32_t __wrap_gate_fresh(const uint8_t *line, size_t line_len, uint8_t *state, size_t state_len);
@@ -64,35 +60,20 @@ uint32_t __wrap_gate_operate(const uint8_t *line, size_t line_len, uint8_t *stat
 uint64_t __wrap_gate_first_bad(const uint8_t *line, size_t line_len, const uint8_t *state, size_t state_len);
 uint64_t __wrap_gate_rewrite(const uint8_t *line, size_t line_len, uint8_t *out, size_t out_len);
 
-enum { AREAS = 5, PAGE = 4096, OWN_STACK = 256 * 1024, DEEP = 16 * 1024 };
-// Where a line has its count of objects, in one byte or, from LONG_FROM on, two; the least count of a wide line, and
-// the most that there can be; where a state area has its records, and the bytes of one.
-enum { OBJECTS_AT = 3, LONG_FROM = 128, FIRST_WIDE = 97, MOST_OBJECTS = 192, RECORDS_FROM = 96, RECORD_BYTES = 17 };
+enum { OWN_STACK = 256 * 1024, DEEP = 16 * 1024 };
+// The most objects that there can be; where a state area ends to have standings; the code that creates a green zone,
+// its standing and that of others.
+enum { MOST_OBJECTS = 192, PARTITIONS = 64, CREATE_GREEN = 13, EXISTING = 1, GREEN = 3 };
 
-// The areas of a call; the calls that have fewer leave the others out.
-struct lent {
-    const char *name;
-    volatile uint8_t *at;
-    size_t length;
-};
-
-// Those whose answers have a kind are the last ones.
-enum which { LOAD_CHECK, FRESH, OPERATE, STATE_LENGTH, FIRST_BAD, REWRITE };
 static const char *const NAMES[] = {"load_check", "fresh", "operate", "state_bytes", "first_bad", "rewrite"};
-
-struct call {
-    enum which which;
-    struct lent areas[AREAS]; // line, state, record, answer, out
-    uint64_t answer;
-};
 
 static char fault[16], area[16], call_name[16];
 
-static int is(const char *name) {
+int is(const char *name) {
     return strcmp(fault, name) == 0;
 }
 
-static unsigned long wanted_number(void) {
+unsigned long wanted_number(void) {
     return strtoul(area, NULL, 10);
 }
 
@@ -118,18 +99,6 @@ static void touch_beside(struct lent lent) {
     }
 }
 
-static int has_kind(const struct call *call) {
-    return call->which >= STATE_LENGTH;
-}
-
-// What became of the call; where its answer has no kind, its number tells.
-static enum sorter_gate_kind kind_of(const struct call *call) {
-    if (has_kind(call)) {
-        return (enum sorter_gate_kind)SORTER_GATE_KIND(call->answer);
-    }
-    return call->answer ? SORTER_GATE_REFUSED : SORTER_GATE_DONE;
-}
-
 // The change that the fault is, after the real call.
 static void change(struct lent lent, enum sorter_gate_kind kind) {
     if (is("write-behind")) {
@@ -141,85 +110,6 @@ static void change(struct lent lent, enum sorter_gate_kind kind) {
                 (is("change-short") && kind == SORTER_GATE_SHORT)) &&
                lent.length > 0) {
         lent.at[lent.length - 1] ^= 1;
-    }
-}
-
-// Another number of a refusal.
-static uint64_t other_than(uint64_t number) {
-    return number % SORTER_GATE_ENTERS_OUTSIDE + 1;
-}
-
-// The faults of gate_rewrite, after the real call.
-static void spoil_rewriting(struct call *call) {
-    const struct lent *out = &call->areas[4];
-    enum sorter_gate_kind kind = kind_of(call);
-    size_t number = SORTER_GATE_NUMBER(call->answer);
-    if (is("past") && kind == SORTER_GATE_DONE && out->length > number) {
-        out->at[number] = 0;
-    }
-    if (is("last") && kind == SORTER_GATE_DONE) {
-        out->at[number - 1] ^= 1;
-    }
-    call->answer = is("let-by") && kind == SORTER_GATE_REFUSED ? number : call->answer;
-    call->answer -= is("less") && kind == SORTER_GATE_SHORT;
-    call->answer += (is("more") && kind == SORTER_GATE_DONE) || (is("question") && kind == SORTER_GATE_REFUSED);
-}
-
-// How many objects a line announces that is accepted.
-static unsigned objects_of(const struct call *call) {
-    const volatile uint8_t *count = call->areas[0].at + OBJECTS_AT;
-    return count[0] < LONG_FROM ? count[0] : count[0] % LONG_FROM + LONG_FROM * count[1];
-}
-
-// The faults of gate_state_bytes, after the real call.
-static void spoil_state_length(struct call *call) {
-    enum sorter_gate_kind kind = kind_of(call);
-    if (is("told")) {
-        call->answer = strtoull(area, NULL, 10);
-    } else if (is("one-off") && kind == SORTER_GATE_DONE && objects_of(call) == FIRST_WIDE) {
-        call->answer = SORTER_GATE_STATE_BYTES;
-    } else if (is("told-let-by") && kind == SORTER_GATE_REFUSED) {
-        call->answer = SORTER_GATE_STATE_BYTES;
-    }
-    call->answer += is("told-question") && kind == SORTER_GATE_REFUSED;
-}
-
-// The record that is named if the one that is named now is out of sight, as one of an inactive object of data.
-static uint64_t named_later(const struct call *call) {
-    static uint8_t copy[PAGE];
-    const struct lent *line = &call->areas[0], *state = &call->areas[1];
-    memcpy(copy, (const uint8_t *)state->at, state->length);
-    memset(copy + RECORDS_FROM + RECORD_BYTES * (call->answer - 1), 0, RECORD_BYTES);
-    return __real_gate_first_bad((const uint8_t *)line->at, line->length, copy, state->length);
-}
-
-// The faults of gate_first_bad, after the real call.
-static void spoil_first_bad(struct call *call) {
-    enum sorter_gate_kind kind = kind_of(call);
-    uint64_t number = SORTER_GATE_NUMBER(call->answer);
-    if (is("named") || (is("named-let-by") && kind == SORTER_GATE_REFUSED && number == wanted_number())) {
-        call->answer = is("named") ? wanted_number() : 0;
-    } else if (is("named-later") && kind == SORTER_GATE_DONE && number) {
-        uint64_t later = named_later(call);
-        call->answer = later ? later : number;
-    }
-    call->answer +=
-        (is("named-more") && kind == SORTER_GATE_DONE) || (is("named-question") && kind == SORTER_GATE_REFUSED);
-    call->answer -= is("named-less") && kind == SORTER_GATE_DONE && number;
-}
-
-// The faults of the calls whose answers have a kind.
-static void spoil_with_kind(struct call *call) {
-    uint64_t number = SORTER_GATE_NUMBER(call->answer);
-    if (is("never") && kind_of(call) == SORTER_GATE_REFUSED && number == wanted_number()) {
-        call->answer += other_than(number) - number;
-    }
-    if (call->which == REWRITE) {
-        spoil_rewriting(call);
-    } else if (call->which == FIRST_BAD) {
-        spoil_first_bad(call);
-    } else {
-        spoil_state_length(call);
     }
 }
 
@@ -284,8 +174,8 @@ static void go_on_mistaken(struct call *call) {
         state->length = SORTER_GATE_STATE_BYTES;
     }
     if (is("last-record") && call->which == OPERATE && wide && needed == state->length &&
-        objects_of(call) < MOST_OBJECTS &&
-        (strcmp(area, "data") || call->areas[0].length <= OBJECTS_AT + 3 + 3 * objects_of(call))) {
+        announced_objects(call) < MOST_OBJECTS &&
+        (strcmp(area, "data") || call->areas[0].length <= OBJECTS_AT + 3 + 3 * announced_objects(call))) {
         go_on_without_last(call);
         return;
     }
@@ -296,6 +186,20 @@ static void go_on_mistaken(struct call *call) {
         *record = (struct lent){record->name, smaller, sizeof smaller};
     }
     go_on(call);
+}
+
+// The real operation with green zones taken for other ones.
+static void go_on_as_plain(struct call *call) {
+    volatile uint8_t *state = call->areas[1].at;
+    uint64_t greens = 0;
+    for (int i = 1; i < PARTITIONS; i++) {
+        greens |= (uint64_t)(state[i] == GREEN) << i;
+        state[i] = state[i] == GREEN ? EXISTING : state[i];
+    }
+    go_on(call);
+    for (int i = 1; i < PARTITIONS; i++) {
+        state[i] = greens >> i & 1 ? GREEN : state[i];
+    }
 }
 
 // The real call on another stack than the caller's, of which the caller's then shows nothing.
@@ -344,16 +248,22 @@ static uint64_t spoilt(struct call *call) {
         go_deep(call);
     } else if (is("small-only") || is("either") || is("last-record") || is("modulo")) {
         go_on_mistaken(call);
+    } else if (is("as-plain") && record->length > 0 && record->at[0] == wanted_number() &&
+               call->areas[1].length >= PARTITIONS) {
+        go_on_as_plain(call);
     } else {
         go_on(call);
     }
     if (lent) {
         change(*lent, kind_of(call));
     }
+    if (is("plain-zone") && call->answer == 0 && record->length && record->at[0] == CREATE_GREEN) {
+        call->areas[1].at[record->at[1]] = EXISTING;
+    }
     if (has_kind(call)) {
         spoil_with_kind(call);
-    } else if (call->answer == wanted_number() && is("accept")) {
-        return SORTER_GATE_ACCEPTED;
+    } else if (call->answer == wanted_number() && is("instead")) {
+        return strtoul(call_name, NULL, 10);
     } else if (call->answer == wanted_number() && is("never")) {
         return other_than(call->answer);
     }

@@ -22,7 +22,7 @@ void spoil_state(const uint8_t *sound) {
     for (size_t places = areas[STATE].length ? below(4) : 0; places > 0; places--) {
         uint8_t *byte = own_start(STATE) + some_place(sound);
         size_t kind = below(3);
-        *byte = kind == 0 ? *byte ^ (uint8_t)(1 << below(8)) : (uint8_t)(kind == 1 ? below(4) : last_value + below(2));
+        *byte = kind == 0 ? *byte ^ (uint8_t)(1 << below(8)) : (uint8_t)(kind == 1 ? below(5) : last_value + below(2));
     }
 }
 

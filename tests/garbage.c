@@ -1,11 +1,11 @@
 // Throws random and mutated inputs of every length at the six functions, twice: in the first pass each area ends where
 // a forbidden page begins, in the second each begins where one ends, and line and record cannot be written. So a byte
 // that is read or written beside an area is seen. A refusal leaves state and answer area as they were, an accepted call
-// leaves what document 01 says; the same inputs get the same answers in both passes; and in each pass, on small lines
-// and on wide ones, every number is answered, every code is accepted and an area of the other lines' length is refused,
-// and every area is empty at least once. Then in each pass what tests/rooms.c tries out one by one.
-// (tests/rewriting.c, state_bytes.c and first_bad.c hold the functions whose answers have a kind to what they must
-// answer.)
+// leaves what document 01 says, and no answer is one that tests/green.c has something against; the same inputs get the
+// same answers in both passes; and in each pass, on small lines and on wide ones, every number is answered, every code
+// is accepted and an area of the other lines' length is refused, and every area is empty at least once. Then in each
+// pass what tests/rooms.c tries out one by one. (tests/rewriting.c, state_bytes.c and first_bad.c hold the functions
+// whose answers have a kind to what they must answer.)
 //   garbage TIMES SEED   makes TIMES calls in each pass; prints how often each number came, and each code was accepted;
 //                        to be called in the repository's root
 #include <stdio.h>
@@ -15,6 +15,7 @@
 #include "areas.h"
 #include "effect.h"
 #include "first_bad.h"
+#include "green.h"
 #include "inputs.h"
 #include "rewriting.h"
 #include "rooms.h"
@@ -22,14 +23,14 @@
 #include "state_bytes.h"
 
 // A session is a fresh state and the calls after it, on one sound line.
-enum { NUMBERS = 22, CODES = 13, SESSION = 256 };
+enum { NUMBERS = 23, CODES = 14, SESSION = 256 };
 
 // The calls that judge: their answer is a number alone.
 enum call { LOAD_CHECK, FRESH, OPERATE, CALLS };
 
 // For each its name, the last question that it puts, and how many of the areas it takes, the first ones.
 static const char *const CALL_TEXTS[CALLS] = {"gate_load_check", "gate_fresh", "gate_operate"};
-static const uint32_t LAST_NUMBERS[CALLS] = {6, 7, 21};
+static const uint32_t LAST_NUMBERS[CALLS] = {6, 7, 22};
 static const int TAKES[CALLS] = {LINE + 1, STATE + 1, ANSWER + 1};
 
 // What came on small lines, and on wide ones.
@@ -124,6 +125,20 @@ static void follow(enum call call, struct tally *tally) {
     }
 }
 
+// Holds an answer to what green zones ask, if the record meets the questions before; the state is not changed yet where
+// it is expected.
+static void hold_green(uint32_t number) {
+    const uint8_t *line = own_start(LINE), *record = own_start(RECORD);
+    if ((number && number < SORTER_GATE_OUTSIDE) || !line_fits(line, areas[LINE].length) ||
+        areas[STATE].length != state_bytes_of(line) || !record_fits(line, record, areas[RECORD].length)) {
+        return;
+    }
+    const char *fault = green_fault(line, expected_start(STATE), record, number);
+    if (fault) {
+        complain("answered %u, and %s", number, fault);
+    }
+}
+
 // The first pass keeps the answer, the second must have the same one.
 static void compare_passes(uint32_t number) {
     uint8_t *first = &first_answers[trial.input - 1];
@@ -147,6 +162,9 @@ static uint32_t checked_call(enum call call, struct tally *tally) {
         complain("answered %u, which is none of its numbers", number);
     }
     compare_passes(number);
+    if (call == OPERATE) {
+        hold_green(number);
+    }
     if (number == 0) {
         follow(call, tally);
     }

@@ -12,9 +12,9 @@ trap 'rm -rf "$out"' EXIT
 # The sanitizers watch the test's own code alone: the library is not built for them.
 flags=(-std=c11 -O2 -Wall -Wextra -Werror -Iinclude -g -fsanitize=address,undefined)
 parts=()
-for name in garbage areas effect inputs refusals rewriting state_bytes first_bad rooms faulty; do
+for name in garbage areas effect green inputs refusals rewriting state_bytes first_bad rooms; do
     gcc "${flags[@]}" -c -o "$out/$name.o" "tests/$name.c"
-    [ $name = faulty ] || parts+=("$out/$name.o")
+    parts+=("$out/$name.o")
 done
 gcc "${flags[@]}" -o "$out/garbage" "${parts[@]}" target/staticlib/libgate.a
 "$out/garbage" "${1:-1000000}" "${2:-1}"
@@ -23,7 +23,7 @@ wrapped=()
 for name in load_check state_bytes fresh operate first_bad rewrite; do
     wrapped+=("-Wl,--wrap=gate_$name")
 done
-gcc "${flags[@]}" -o "$out/faulty" "${parts[@]}" "$out/faulty.o" target/staticlib/libgate.a "${wrapped[@]}"
+gcc "${flags[@]}" -o "$out/faulty" "${parts[@]}" tests/faulty{,_kinds}.c target/staticlib/libgate.a "${wrapped[@]}"
 few=100000
 seen=0
 
@@ -137,6 +137,21 @@ wrong_rooms() {
     must_tell "modulo" "gate_operate accepted \(0\)($left| a record that it must refuse)"
 }
 
+# What concerns green zones.
+wrong_green() {
+    must_tell "plain-zone" \
+        "gate_operate accepted \(0\), and did not leave the state as document 01 says at place [0-9]+"
+    must_tell "instead 22 0" "gate_operate answered 0, and the green rule is broken"
+    must_tell "instead 22 19" "gate_operate answered 19, and the green rule is broken"
+    must_tell "instead 22 21" "gate_operate answered 21, and the green rule is broken"
+    must_tell "instead 19 22" "gate_operate answered 22, and the green rule is kept"
+    must_tell "as-plain 1" "gate_operate answered (0|19), and the (green rule is broken|driver is in a green zone)"
+    must_tell "as-plain 8" "gate_operate answered (0|21), and the green rule is broken"
+    for code in 10 11 12; do
+        must_tell "as-plain $code" "gate_operate answered 0, and what stays in the green zone names what leaves it"
+    done
+}
+
 # Without a fault the few inputs are enough to pass.
 GATE_FAULT=none "$out/faulty" $few 1 > "$out/rows"
 for area in line state record answer; do
@@ -163,24 +178,26 @@ wrong_rewriting
 wrong_state_bytes
 wrong_first_bad
 wrong_rooms
+wrong_green
 must_tell "constant 0" "gate_fresh accepted \(0\), and did not leave the state as document 01 says at place [0-9]+"
 must_tell "constant 7" "gate_fresh refused a fresh state of a sound line by 7"
 must_tell "constant 10" "gate_fresh answered 10, which is none of its numbers"
-must_tell "constant 22" "gate_fresh answered 22, which is none of its numbers"
+must_tell "constant 23" "gate_fresh answered 23, which is none of its numbers"
 for number in 1 2 3 4; do
-    must_tell "accept $number" "gate_(load_check|fresh|operate) accepted \(0\) a line that it must refuse"
+    must_tell "instead $number 0" "gate_(load_check|fresh|operate) accepted \(0\) a line that it must refuse"
 done
-must_tell "accept 7" "gate_(fresh|operate) accepted \(0\) a length that it must refuse"
-must_tell "accept 8" "gate_operate accepted \(0\) a length that it must refuse"
-must_tell "accept 10" "gate_operate accepted \(0\) a record that it must refuse"
-must_tell "accept 11" "gate_operate accepted \(0\) a record that it must refuse"
+must_tell "instead 7 0" "gate_(fresh|operate) accepted \(0\) a length that it must refuse"
+must_tell "instead 8 0" "gate_operate accepted \(0\) a length that it must refuse"
+must_tell "instead 10 0" "gate_operate accepted \(0\) a record that it must refuse"
+must_tell "instead 11 0" "gate_operate accepted \(0\) a record that it must refuse"
 for number in 19 21; do
-    must_tell "accept $number" \
+    must_tell "instead $number 0" \
         "gate_operate accepted \(0\), and did not leave the state as document 01 says at place [0-9]+"
 done
 must_tell "never 1" "the library never answered 1 on small lines"
 must_tell "never 21" "the library never answered 21 on small lines"
+must_tell "never 22" "the library never answered 22 on small lines"
 must_tell "refuse 1" "the library never accepted code 1 on small lines"
-must_tell "refuse 12" "the library never accepted code 12 on small lines"
+must_tell "refuse 13" "the library never accepted code 13 on small lines"
 must_tell "place" "gate_operate answered 10, and in the pass before [0-9]+"
 echo "host: $seen faults put into the library, each told by the test"

@@ -6,9 +6,13 @@
 #include "effect.h"
 #include "inputs.h"
 
-// Document 01's file L, read where the repository has it: how many objects it has, and where its groups begin.
+// Document 01's file L, read where the repository has it.
 static uint8_t LINE_L[45];
-enum { OBJECTS_L = 6, FIRST_L = 5, DEVICES_L = FIRST_L + 3 * OBJECTS_L, VALUES_L = DEVICES_L + 2 };
+
+// A line whose transfer descriptor is read by no card. Each of its values names one object: a driver's, the card's, or
+// an external one, so that a descriptor which stays in a green zone keeps the object there.
+static const uint8_t LINE_HELD[] = {1, 2, 1, 5, 3, 1, 1, 1, 3, 1, 2, 4, 2, 1, 3, 2, 1,
+                                    3, 0, 0, 0, 1, 2, 1, 0, 1, 4, 3, 0, 1, 5, 2, 0};
 
 void read_line_l(void) {
     if (slurp("crates/office/data/line.bin", LINE_L, sizeof LINE_L) != sizeof LINE_L) {
@@ -17,7 +21,8 @@ void read_line_l(void) {
     }
 }
 
-// What is done on L: a length, then the record.
+// What is done on L: a length, then the record. A driver's write of value 3, and what a card then may write, stand
+// twice: they seldom come one after the other.
 static const uint8_t RECORDS_L[][24] = {
     {2, 5, 1},
     {2, 5, 2},
@@ -36,12 +41,44 @@ static const uint8_t RECORDS_L[][24] = {
     {2, 10, 1},
     {6, 1, 1, 1, 2, 0, 5},
     {7, 3, 1, 2, 6, 5, 5, 0},
+    {6, 1, 1, 1, 2, 0, 2},
+    {5, 3, 1, 1, 2, 2},
+    {6, 1, 1, 1, 2, 0, 3},
+    {21, 2, 1, 1, 5, 1, 10, 11, 12, 13, 14, 15, 16, 17, 18, 19, 20, 21, 22, 23, 24, 25},
 };
+
+// What is done on that one.
+static const uint8_t RECORDS_HELD[][24] = {
+    {3, 7, 2, 1},
+    {3, 8, 1, 1},
+    {4, 9, 1, 1, 5},
+    {6, 1, 1, 1, 1, 0, 1},
+    {6, 1, 1, 1, 1, 0, 2},
+    {6, 1, 1, 1, 1, 0, 3},
+    {5, 3, 1, 1, 1, 1},
+    {2, 10, 2},
+    {2, 11, 1},
+    {4, 12, 1, 1, 5},
+};
+
+// Lines whose numbers have one byte each and whose values one entry each, with what is done on them.
+struct known {
+    const uint8_t *line;
+    size_t length;
+    const uint8_t (*records)[24];
+    size_t count;
+};
+static const struct known L = {LINE_L, sizeof LINE_L, RECORDS_L, sizeof RECORDS_L / sizeof *RECORDS_L};
+static const struct known HELD = {LINE_HELD, sizeof LINE_HELD, RECORDS_HELD,
+                                  sizeof RECORDS_HELD / sizeof *RECORDS_HELD};
 
 static uint64_t seed;
 
 // Whether all of a session is brought into partition 1, where nearly everything may be described, or into 1 and 2.
 static int together;
+
+// Which of partitions 1 and 2 a session creates as green zones, a bit for each; none in more than half of the sessions.
+static unsigned greens;
 
 // Whether hardcoded values write transfer descriptors of their own devices, on every second random line.
 static int rings;
@@ -89,19 +126,22 @@ static uint8_t *put_counts(uint8_t *to, unsigned drivers, unsigned devices, unsi
     return put_number(put_number(to + OBJECTS_AT, objects), values);
 }
 
-// File L with so many objects: those of L are the last ones, and what stands before them is external data.
-static size_t lifted_l(unsigned objects, uint8_t *to) {
-    uint8_t *at = put_counts(to, LINE_L[DRIVERS_AT], LINE_L[DEVICES_AT], objects, values_of(LINE_L));
-    unsigned shift = objects - OBJECTS_L;
+// A known line with so many objects: its own are the last ones, and what stands before them is external data.
+static size_t lifted(const struct known *known, unsigned objects, uint8_t *to) {
+    const uint8_t *line = known->line;
+    uint8_t *at = put_counts(to, line[DRIVERS_AT], line[DEVICES_AT], objects, values_of(line));
+    unsigned shift = objects - objects_of(line);
     for (unsigned object = 1; object <= shift; object++) {
         *at++ = HARDCODED - 1;
         *at++ = EXTERNAL;
         *at++ = 0;
     }
-    memcpy(at, LINE_L + FIRST_L, VALUES_L - FIRST_L);
-    at += VALUES_L - FIRST_L;
-    // Each of its values has one entry: count, object, mode, put value.
-    for (const uint8_t *value = LINE_L + VALUES_L; value < LINE_L + sizeof LINE_L; value += 4) {
+    const uint8_t *first = object_in_line(line, 1);
+    const uint8_t *value = object_in_line(line, objects_of(line) + 1u) + line[DEVICES_AT];
+    memcpy(at, first, (size_t)(value - first));
+    at += value - first;
+    // Each of its values: count, object, mode, put value.
+    for (; value < line + known->length; value += 4) {
         *at++ = value[0];
         at = put_number(at, value[1] + shift);
         *at++ = value[2];
@@ -110,11 +150,12 @@ static size_t lifted_l(unsigned objects, uint8_t *to) {
     return (size_t)(at - to);
 }
 
-// Whether a line is L, or L among more objects.
-static int is_lifted_l(const uint8_t *line) {
-    static uint8_t lifted[MOST_LINE];
+// Whether a line is a known one, or that among more objects.
+static int is_lifted(const struct known *known, const uint8_t *line) {
+    static uint8_t made[MOST_LINE];
     unsigned objects = objects_of(line);
-    return (objects == OBJECTS_L || objects > MOST_SMALL) && memcmp(lifted, line, lifted_l(objects, lifted)) == 0;
+    return (objects == objects_of(known->line) || objects > MOST_SMALL) &&
+           memcmp(made, line, lifted(known, objects, made)) == 0;
 }
 
 // The first objects are the devices' hardcoded descriptors; the others are of any kind and owner that there are.
@@ -175,15 +216,17 @@ static unsigned wide_count(void) {
 
 size_t sound_line(uint8_t *to) {
     together = below(2) == 0;
+    greens = (unsigned)(below(2) * below(4));
+    const struct known *known = below(4) ? &L : &HELD;
     if (below(2)) {
-        memcpy(to, LINE_L, sizeof LINE_L);
-        return sizeof LINE_L;
+        memcpy(to, known->line, known->length);
+        return known->length;
     }
     size_t size = below(4);
     int full = size == 0, wide = size == 1;
     rings = below(2) == 0;
     if (wide && below(2)) {
-        return lifted_l(wide_count(), to);
+        return lifted(known, wide_count(), to);
     }
     // Half of the wide lines have few drivers and devices, so that a session gets to bring all in.
     int many = full || (wide && below(2));
@@ -278,7 +321,7 @@ size_t opening_record(const uint8_t *sound, size_t step, uint8_t *to) {
     uint8_t partition = (uint8_t)(together ? 1 : 1 + below(2));
     uint8_t drivers = sound[DRIVERS_AT], devices = sound[DEVICES_AT];
     if (step < 2) {
-        to[0] = 5;
+        to[0] = greens >> step & 1 ? 13 : 5;
         to[1] = (uint8_t)(1 + step);
         return 2;
     }
@@ -294,8 +337,8 @@ size_t opening_record(const uint8_t *sound, size_t step, uint8_t *to) {
 
 // A record whose numbers nearly all exist, often one that stores or reads; few partitions, so that things meet in one.
 static size_t random_record(const uint8_t *line, uint8_t *to) {
-    uint8_t code = (uint8_t)(below(2) ? 1 + below(12) : 1 + below(4));
-    int by_partition = code == 5 || code == 6 || code == 9 || code == 12;
+    uint8_t code = (uint8_t)(below(2) ? 1 + below(13) : 1 + below(4));
+    int by_partition = code == 5 || code == 6 || code == 9 || code == 12 || code == 13;
     int by_driver = code == 1 || code == 3 || code == 7 || code == 10;
     to[0] = code;
     uint8_t *at = put_number(to + 1, some(by_partition ? 3 : line[by_driver ? DRIVERS_AT : DEVICES_AT]));
@@ -307,7 +350,7 @@ static size_t random_record(const uint8_t *line, uint8_t *to) {
     return (size_t)(at - to);
 }
 
-// A record of those for L, for one whose objects have larger numbers by `shift`; 0 as a destination stays.
+// A record for a known line, for one whose objects have larger numbers by `shift`; 0 as a destination stays.
 static size_t lifted_record(const uint8_t *listed, unsigned shift, uint8_t *to) {
     const uint8_t *from = listed + 1, *end = from + listed[0];
     uint8_t code = from[0], *at = to;
@@ -336,8 +379,9 @@ size_t any_record(const uint8_t *sound, uint8_t *to) {
         random_bytes(to, n);
         return n;
     }
-    if (below(2) && is_lifted_l(sound)) {
-        n = lifted_record(RECORDS_L[below(sizeof RECORDS_L / sizeof RECORDS_L[0])], objects_of(sound) - OBJECTS_L, to);
+    const struct known *known = is_lifted(&L, sound) ? &L : is_lifted(&HELD, sound) ? &HELD : NULL;
+    if (known && below(4)) {
+        n = lifted_record(known->records[below(known->count)], objects_of(sound) - objects_of(known->line), to);
     } else {
         n = random_record(sound, to);
     }

@@ -18,8 +18,9 @@ size_t below(size_t n);
 
 void random_bytes(uint8_t *to, size_t n);
 
-// Document 01's line L, or a random one that meets questions 1 to 6, up to full size. One line out of eight is a wide
-// one, every second of them L with more objects before its own. All return the length.
+// Document 01's line L, one whose descriptor no card reads, or a random one that meets questions 1 to 6, up to full
+// size. One line out of eight is a wide one, every second of them one of the first two with more objects before its
+// own. All return the length.
 size_t sound_line(uint8_t *to);
 
 // A sound line as it is, with one number changed, cut, mutated, or bytes in its place.
