@@ -2,8 +2,9 @@
 // them. Half of the calls go on from a fresh state, as a controller's do; the others are made on random areas that are
 // well formed, whose descriptors lead further. Lines of at most 96 objects and wider ones are two kinds, and each kind
 // gets state areas of both lengths. For each kind every number must be answered, and every code accepted and refused by
-// each of the questions that are put to it alone (18 to 21), a line rewritten and its state area's length told with
-// each kind of answer, and an area of the other kind's length refused by 7; the first bad record of an area must be an
+// each of the questions that are put to it alone (18 to 22), drivers' writes and reads accepted in green zones too, and
+// objects kept in one by what 20 asks there besides; a line rewritten and its state area's length told with each kind
+// of answer, and an area of the other kind's length refused by 7; the first bad record of an area must be an
 // object's, an absent one's, and none, where question 9 is answered with yes and where it is not; and of eight calls at
 // least one has a wide line. Otherwise nothing was compared.
 //   agree CALLS SEED   prints how many calls were compared; to be called in the repository's root
@@ -18,7 +19,7 @@
 #include "plain/plain.h"
 #include "sorter_gate.h"
 
-enum { NUMBERS = 22, CODES = 13, KINDS = 3, SESSION = 64, ROOM = 4096, WIDE_IN = 8 };
+enum { NUMBERS = 23, CODES = 14, KINDS = 3, SESSION = 64, ROOM = 4096, WIDE_IN = 8 };
 // The bytes of a state area before its records.
 enum { HEAD_BYTES = MOST_PARTITION + 1 + 2 * MOST_OWNERS };
 enum call { LOAD_CHECK, FRESH, OPERATE, REWRITE, STATE_LENGTH, FIRST_BAD };
@@ -33,9 +34,11 @@ struct areas {
     uint8_t state[ROOM], answer[ROOM], out[ROOM];
 };
 
-// What was met on lines of one kind.
+// What was met on lines of one kind; by their codes, the records of drivers in green zones that were accepted, and
+// those that question 20 refused in a green zone and would not have refused in another one.
 struct met {
     unsigned long calls, answered[CODES][NUMBERS], rewritten[KINDS], told[KINDS], other_length, found[FOUND];
+    unsigned long green[CODES], kept_green[CODES];
 };
 
 static struct areas by_library, by_plain;
@@ -142,6 +145,25 @@ static enum found found_by(uint64_t answer) {
                : WELL_FORMED;
 }
 
+// Counts what an operation was answered in a green zone. An accepted write or read leaves partitions as they are, and a
+// refusal all.
+static void count_green(struct met *met, uint64_t answer) {
+    static uint8_t state[ROOM];
+    uint8_t code = record[0];
+    if (answer == 0 && (code == 1 || code == 3)) {
+        met->green[code] += by_plain.state[by_plain.state[owner_at(BY_DRIVER, record[1])]] == GREEN;
+    }
+    if (answer != SORTER_GATE_IN_REACH) {
+        return;
+    }
+    memcpy(state, by_plain.state, ROOM);
+    for (unsigned partition = 1; partition <= MOST_PARTITION; partition++) {
+        state[partition] = state[partition] == GREEN ? EXISTING : state[partition];
+    }
+    met->kept_green[code] += plain_operate(line, line_length, state, state_length, record, record_length,
+                                           by_plain.answer, ROOM) != SORTER_GATE_IN_REACH;
+}
+
 // Counts an answer, by its kind where it has one, with the lines of its kind; whether the call is accepted. Asking for
 // the first bad record is not: a byte that was spoilt for it is put back.
 static int count(enum call call, uint64_t answer) {
@@ -157,6 +179,9 @@ static int count(enum call call, uint64_t answer) {
     } else {
         met->answered[call == OPERATE && (answer == 0 || answer > 10) ? record[0] : 0][answer]++;
         met->other_length += answer == SORTER_GATE_STATE_LENGTH && state_length == other;
+    }
+    if (call == OPERATE) {
+        count_green(met, answer);
     }
     return answer == 0;
 }
@@ -272,12 +297,16 @@ static void demand_codes(const struct met *met, const char *lines) {
     }
     for (unsigned code = 1; code <= 3; code += 2) {
         demand(met->answered[code][19], lines, "19 for code", code);
+        demand(met->answered[code][22], lines, "22 for code", code);
+        demand(met->green[code], lines, "in a green zone an accepted record of code", code);
         demand(met->answered[code + 1][18], lines, "18 for code", code + 1);
     }
     for (unsigned code = 10; code <= 12; code++) {
         demand(met->answered[code][20], lines, "20 for code", code);
+        demand(met->kept_green[code], lines, "20 by what a green zone asks besides for code", code);
     }
     demand(met->answered[8][21], lines, "21 for code", 8);
+    demand(met->answered[8][22], lines, "22 for code", 8);
 }
 
 static void demand_all(const struct met *met, const char *lines) {

@@ -7,10 +7,10 @@
 // The entries of a wide line name few of its objects, so that they meet.
 enum { MOST_POOL = 24 };
 
-// How a line is made: whether its hard-wired descriptors have the largest numbers and not the smallest, and the objects
-// that its entries name.
+// How a line is made: whether its hard-wired descriptors have the largest numbers and not the smallest, whether
+// hard-wired values write too, and the objects that its entries name.
 struct making {
-    int turned;
+    int turned, rings;
     unsigned pool, pooled[MOST_OBJECTS];
 };
 
@@ -42,7 +42,7 @@ static void choose_pool(const uint8_t *line, struct making *making, int wide) {
     }
 }
 
-// One or two entries; those of a hard-wired value read what its card owns.
+// One or two entries; those of a hard-wired value read what its card owns, and on a line with rings may write it.
 static uint8_t *put_value(const uint8_t *line, const struct making *making, unsigned value, uint8_t *at) {
     unsigned cards = line[DEVICES_AT];
     *at = (uint8_t)(1 + below(2));
@@ -51,7 +51,7 @@ static uint8_t *put_value(const uint8_t *line, const struct making *making, unsi
         object = value > cards && below(100) == 0 ? nth(line, making, 1 + (unsigned)below(cards)) : object;
         int transfer = object_in_line(line, object)[0] == TRANSFER;
         at = put_number(at, object);
-        at[0] = value <= cards ? READ : (uint8_t)(1 + below(3));
+        at[0] = value <= cards && !making->rings ? READ : (uint8_t)(1 + below(3));
         at[1] = transfer && at[0] != READ ? (uint8_t)below(values_of(line) + 1u) : 0;
     }
     return at;
@@ -64,7 +64,7 @@ static unsigned wide_objects(void) {
 }
 
 size_t linked_line(uint8_t *to, int wide) {
-    struct making making = {.turned = below(2) == 0};
+    struct making making = {.turned = below(2) == 0, .rings = below(2) == 0};
     unsigned cards = 1 + (unsigned)below(4);
     unsigned objects = wide ? wide_objects() : 2 * cards + 1 + (unsigned)below(12);
     unsigned values = cards + 2 + (unsigned)below(wide ? 40 : 12);
@@ -101,7 +101,7 @@ void random_state(const uint8_t *line, uint8_t *state) {
     const uint8_t *hardwired = object_in_line(line, objects_of(line) + 1u) - 1;
     memset(state, 0, state_bytes_of(line));
     for (size_t partition = 1; partition <= MOST_PARTITION; partition++) {
-        state[partition] = (uint8_t)(partition <= 3 ? 1 : below(3));
+        state[partition] = (uint8_t)(partition > 3 ? below(GREEN + 1) : below(2) ? GREEN : EXISTING);
     }
     for (size_t i = 0; i < MOST_OWNERS; i++) {
         owners[i] = i < line[DRIVERS_AT] ? some_partition(spread) : 0;
@@ -195,15 +195,24 @@ static uint8_t *put_copy(uint8_t card, unsigned from, unsigned into, uint8_t *at
     return put_number(put_number(at + sizeof head, from), into);
 }
 
+// A card comes into one of the partitions that random states use.
+static uint8_t *put_entering(uint8_t card, uint8_t *at) {
+    at[0] = 8;
+    at[1] = card;
+    at[2] = (uint8_t)(1 + below(3));
+    return at + 3;
+}
+
 size_t linked_record(const uint8_t *line, size_t length, uint8_t *to) {
     struct entry from = some_entry(line, length), into = some_entry(line, length);
     if (!from.object || !into.object || !line[DEVICES_AT]) {
         return 0;
     }
     uint8_t card = (uint8_t)(1 + below(line[DEVICES_AT]));
-    size_t kind = below(5);
-    uint8_t *end = kind == 0  ? put_leaving(into.object, to)
-                   : kind < 3 ? put_write(line, card, into, to)
-                              : put_copy(card, from.object, into.object, to);
+    size_t kind = below(6);
+    uint8_t *end = kind == 0   ? put_leaving(into.object, to)
+                   : kind < 3  ? put_write(line, card, into, to)
+                   : kind == 3 ? put_entering(card, to)
+                               : put_copy(card, from.object, into.object, to);
     return (size_t)(end - to);
 }

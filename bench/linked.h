@@ -16,8 +16,8 @@ void spoil_entry(const uint8_t *line, size_t length, uint8_t *to);
 // An area that is well formed for a line that meets questions 1 to 6, with partitions 1 to 3 in use at most.
 void random_state(const uint8_t *line, uint8_t *state);
 
-// A record by which a card writes or copies what entries of the line name, or by which such an object leaves; 0 if the
-// line has no card or no entry.
+// A record by which a card writes or copies what entries of the line name, by which such an object leaves, or by which
+// a card comes in; 0 if the line has no card or no entry.
 size_t linked_record(const uint8_t *line, size_t length, uint8_t *to);
 
 #endif
