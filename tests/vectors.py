@@ -4,12 +4,12 @@
     tests/vectors.py            write crates/vectors/stdin, stdout and cases.txt
     tests/vectors.py --check    fail if what is stored differs
 
-The cases are made here (those of the writer of files in vectors_write.py, those of wide lines in vectors_wide.py, those
-of the first bad record in vectors_first.py, those of ring cards in vectors_rings.py) and judged elsewhere: answers and
-checksums are the reference's, by its program `vectors`. A named case states its answer, and if the reference gives
-another, nothing is written and the check fails. A case is a byte for what is called, its length in two bytes, lower
-byte first, and its bytes; its row is its place from 1, the answer, and a checksum of what the call left (0 where it
-leaves nothing) or, in 12, a second answer.
+The cases are made here (those of the writer of files in vectors_write.py, of wide lines in vectors_wide.py, of the
+first bad record in vectors_first.py, of ring cards in vectors_rings.py, of green zones in vectors_green.py and
+vectors_zones.py) and judged elsewhere: answers and checksums are the reference's, by its program `vectors`. A named
+case states its answer, and if the reference gives another, nothing is written and the check fails. A case is a byte for
+what is called, its length in two bytes, lower byte first, and its bytes; its row is its place from 1, the answer, and a
+checksum of what the call left (0 where it leaves nothing) or, in 12, a second answer.
 What is called:
 
     1         the load check, on a file
@@ -35,9 +35,11 @@ import subprocess
 import sys
 
 import vectors_first
+import vectors_green
 import vectors_rings
 import vectors_wide
 import vectors_write
+import vectors_zones
 from layout import (AREA, CONTENT, DEVICES_FROM, DRIVERS_FROM, MOST_DEVICES, MOST_DRIVERS, MOST_ENTRIES, MOST_ITEMS,
                     MOST_VALUES, SMALL_ROOM, record_at, row, two)
 
@@ -46,7 +48,7 @@ HOME = TOP / "crates" / "vectors"
 LOAD, FRESH, FORMED, OPERATION, FRESH_SHORT, FRESH_LONG, WRITE = 1, 2, 3, 4, 5, 6, 7
 FRESH_IN, CREATE_IN, STATE_BYTES, WRITE_WIDE, FIRST_BAD, OPERATE_IN = 8, 9, 10, 11, 12, 13
 # What the program `vectors` takes in.
-MOST_INPUT = 163840
+MOST_INPUT = 196608
 
 
 # Document 01's file L, whose numbers have one byte each, by groups.
@@ -194,7 +196,7 @@ def named_areas():
     """Areas of L, each broken in one rule of 'Well formed'; a change is a byte of the state above."""
     yield "9: the state as it is", {}, 0
     yield "9: status byte 0 is not 0", {0: 1}, 9
-    yield "9: a status of 3", {9: 3}, 9
+    yield "9: a status of 3", {9: 3}, 0
     yield "9: a destroyed partition beside", {9: 2}, 0
     yield "9: a driver in a partition never used", {DRIVERS_FROM: 5, record_at(6): 5}, 9
     yield "9: a driver in a destroyed partition", {DRIVERS_FROM: 3, record_at(6): 3}, 9
@@ -324,6 +326,17 @@ def ring_cases():
         yield case(label, OPERATE_IN, two(len(record)) + record + on_area(file, length, area), stated)
 
 
+def green_cases():
+    for label, file, length, area, record, stated in [*vectors_green.calls(L), *vectors_zones.calls(L)]:
+        yield case(label, OPERATE_IN, two(len(record)) + record + on_area(file, length, area), stated)
+    for label, record, stated in vectors_zones.records():
+        yield case(label, OPERATION, record, stated)
+    for label, file, length, area, stated, answer in vectors_zones.first_bad():
+        yield case(f"first bad: {label}; answer {answer}", FIRST_BAD, on_area(file, length, area), stated, answer)
+    for label, change, stated in vectors_zones.formed():
+        yield case(label, FORMED, bytes([len(L)]) + row(L) + patches({**ACTIVE, **change}), stated)
+
+
 def cases():
     """In the order in which they came to be: the bytes of those that were there stay as they were."""
     yield from small_cases()
@@ -332,6 +345,7 @@ def cases():
         told = f"; answer {answer}" if answer else ""
         yield case(f"first bad: {label}{told}", FIRST_BAD, on_area(file, length, area), stated, answer)
     yield from ring_cases()
+    yield from green_cases()
 
 
 def reference_program(name):

@@ -132,7 +132,9 @@ def head():
             ("the last driver's byte", {DRIVERS_FROM + MOST_DRIVERS - 1: 1}),
             ("an absent device's byte", {absent_device: 1}),
             ("the last device's byte", {DEVICES_FROM + MOST_DEVICES - 1: 1})):
-        yield f"before the records: {name}", row(HEAD), AREA, {**STATUSES, **HEAD_AREA, **change}, 0, BROKEN
+        # 3 is the standing of a green zone (request N5).
+        answer = WELL if change == {4: 3} else BROKEN
+        yield f"before the records: {name}", row(HEAD), AREA, {**STATUSES, **HEAD_AREA, **change}, 0, answer
     change = {0: 1, DRIVERS_FROM + 2: 1, record_at(2): 4}
     yield small("before the records and object 2", HEAD, {**HEAD_AREA, **change}, 2)
 
@@ -162,7 +164,7 @@ def with_head():
     """A record is broken because of the bytes before it."""
     for name, change, place in (
             ("the status of 1 is 2", {1: 2}, 2), ("the status of 1 is 0", {1: 0}, 2),
-            ("the status of 1 is 3", {1: 3}, 2), ("the status of 3 is 2", {3: 2}, 1),
+            ("the status of 1 is 3", {1: 3}, 0), ("the status of 3 is 2", {3: 2}, 1),
             ("the driver is in 3", {DRIVERS_FROM: 3}, 2),
             ("the driver is in 2, destroyed", {DRIVERS_FROM: 2}, 2), ("the driver is in none", {DRIVERS_FROM: 0}, 2),
             ("the driver is in 3, and object 2", {DRIVERS_FROM: 3, record_at(2): 3}, 3),
