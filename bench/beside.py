@@ -17,6 +17,8 @@ ORDERS = ("rising", "falling", "shuffled")
 # Generated calls that must agree before anything is counted: a gate that is wrong is no mark.
 AGREEING = 200000
 RAW = bytes(range(16))
+# A row that tests/ratios.py holds to a bound.
+GREEN_WRITE = "green: driver writes eight descriptors, dense"
 # An answer that has a kind: the kind's words, and what it counts.
 DONE, SHORT, KIND_UNIT = 0, 2, 2 ** 32
 KINDS = {DONE: "done", SHORT: "short"}
@@ -59,6 +61,38 @@ def into_chain(line, steps):
     return vectors.row([1, 1, 1, line.first, 0, line.start[steps]])
 
 
+def eight_values(line, last):
+    """A driver writes eight descriptors, each with a value of six entries; the last value is given."""
+    values = [line.kept[i % len(line.kept)] for i in range(7)] + [last]
+    return vectors.row([1, 1, 8] + sum(([n, 0, v] for n, v in zip(line.descriptors, values)), []))
+
+
+def green_cases(size):
+    """The same of green zones (request N5), where nothing is searched for a driver's write or copy; and a write and a
+    leaving of these in a zone that is not green."""
+    line, kept, plain = full.green(**size), full.green(keeping=True, **size), full.green(**size)
+    data, own, plain.green = line.data, line.descriptors, False
+    pairs = sum(([n, into] for n, into in zip(own[:8], own[1:])), [])
+    yield "green: driver writes data, dense", "operate", line, vectors.row([1, 1, 1, data[-1], 1]) + RAW, "0"
+    yield GREEN_WRITE, "operate", line, eight_values(line, line.kept[-1]), "0"
+    yield "the same write where 19 searches, dense", "operate", plain, eight_values(line, line.kept[-1]), "0"
+    yield "green: driver copies eight descriptors, dense", "operate", line, vectors.row([3, 1, 8] + pairs), "0"
+    yield "green: write refused by its last entry, dense", "operate", line, eight_values(line, line.breaking), "22"
+    yield "green: object leaves, dense", "operate", line, vectors.row([12, 1, 1, data[-1]]), "0"
+    yield "green: eight objects leave, dense", "operate", line, leave_eight(line), "0"
+    yield "the same eight leave a zone that is not green", "operate", plain, leave_eight(line), "0"
+    yield "green: object kept by what stays, dense", "operate", kept, vectors.row([12, 1, 1, data[-1]]), "20"
+    absent, ring = full.green(**size), full.rings(**size)
+    absent.asleep, ring.green = {(2, 1)}, True
+    yield "green: activate a card, dense", "operate", absent, vectors.row([8, 1, 1]), "0"
+    yield "green: ring card refused, dense", "operate", ring, vectors.row([8, 1, 1]), "22"
+
+
+def leave_eight(line):
+    """The external data but for the first, which values name."""
+    return vectors.row([12, 1, 8] + line.data[1:])
+
+
 def cases(size):
     """A label, what is called, a line, a record and the answer."""
     dense, little = full.mixed(**size), full.little(**size)
@@ -82,6 +116,7 @@ def cases(size):
         yield f"ring card refused, chain of {steps}", "operate", ring, vectors.row([8, ring.owner, 1]), "21"
     yield "object leaves, dense", "operate", dense, vectors.row([12, 1, 1, last]), "0"
     yield "card writes eight items, dense", "operate", dense, card_writes(dense), "0"
+    yield from green_cases(size)
     yield "rewrite the line", "rewrite", dense, b"", str(len(dense.file()))
     yield "first bad record, none, dense", "walk", dense, b"", "0"
 

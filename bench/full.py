@@ -73,6 +73,27 @@ def rings(**size):
     return line
 
 
+def green(keeping=False, **size):
+    """As mixed, but in a green zone and in a state that calls can lead to: what is held keeps the green rule (request
+    N5), six entries in every value. Only the last value breaks it, by its last entry; nothing holds that one. The value
+    before names the very last object, by its last entry; if `keeping`, a descriptor that no card reads holds it."""
+    line, rnd = mixed(**size), random.Random(3)
+    descriptors = [n for n, o in line.objects.items() if o[0] == 1]
+    line.green, unread = True, descriptors.pop()
+    line.objects[unread] = (1, 0, 0)
+    line.descriptors, line.breaking = descriptors, len(line.values)
+    keeps, first = line.breaking - 1, line.breaking // 3 + 1
+    for v in line.values:
+        named = [rnd.choice(line.own(v) if v < first else descriptors + line.data[:1]) for _ in range(ENTRIES)]
+        line.values[v] = [(n, READ if line.objects[n][0] == 1 else rnd.choice([READ, WRITE, BOTH]), 0) for n in named]
+    line.values[line.breaking][-1] = (descriptors[0], WRITE, first)
+    line.values[keeps][-1] = (line.data[-1], READ, 0)
+    line.kept = list(range(first, keeps))
+    line.held = {n: rnd.choice(line.kept) for n in descriptors}
+    line.held[unread] = keeps if keeping else first
+    return line
+
+
 def described(line, device):
     """What the device may write with the values of the moment: the value that is put into each object, 0 into data."""
     held = {**line.held, **{n: line.hardcoded[o[2]] for n, o in line.objects.items() if o[0] == 4}}

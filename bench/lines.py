@@ -16,6 +16,8 @@ FULL = {"devices": 16, "objects": SMALL_ROOM, "values": 47}
 QUARTER = {"devices": 4, "objects": 24, "values": 12}
 WIDE = {"devices": 16, "objects": MOST_OBJECTS, "values": 47}
 SIZES = (("full", FULL), ("quarter", QUARTER), ("wide", WIDE))
+# The standings of a partition that exists: any, and a green zone (request N5).
+EXISTING, GREEN = 1, 3
 # A driver of the one partition, and one that is in another wherever a case needs it.
 AT_HOME, STRANGER = 1, 2
 
@@ -23,7 +25,8 @@ AT_HOME, STRANGER = 1, 2
 class Line:
     """A configuration with everything in partition 1, or in none if `inactive`, but the objects `elsewhere` and the
     drivers `strangers`, which are in 2, and what is `asleep`, a pair of class and owner, or a number for an external
-    object, which is in none; objects are (kind, class, owner), and values lists of entries."""
+    object, which is in none; objects are (kind, class, owner), and values lists of entries. Partition 1 is a green zone
+    if `green`."""
 
     def __init__(self, drivers, devices, objects, values, last=False):
         """The hardcoded descriptors have the smallest numbers, or the largest if `last`."""
@@ -38,6 +41,7 @@ class Line:
         self.strangers = set()
         self.asleep = set()
         self.inactive = False
+        self.green = False
 
     def own(self, device):
         """The transfer descriptors of a device."""
@@ -53,7 +57,7 @@ class Line:
 
     def area(self):
         area = bytearray(area_of(len(self.objects)))
-        area[1] = area[2] = 1
+        area[1], area[2] = GREEN if self.green else EXISTING, EXISTING
         place = 0 if self.inactive else 1
         for i in range(self.drivers):
             area[DRIVERS_FROM + i] = 2 if i + 1 in self.strangers else 0 if (1, i + 1) in self.asleep else place

@@ -47,6 +47,7 @@ def operate_table(folder):
     last = max(n for n, o in line.objects.items() if o[0] == 3)
     raw = vectors.row([1, 1, 1, last, 1]) + bytes(range(16))
     cases = [("create a partition", vectors.row([5, 3]), "0"),
+             ("create a green zone", vectors.row([13, 3]), "0"),
              ("destroy: refused, not empty", vectors.row([6, 1]), "15"),
              ("a driver writes data", raw, "0"),
              ("a driver reads eight objects", vectors.row([3, 1, 8] + [last, 0] * 8), "0"),

@@ -11,6 +11,7 @@ import sys
 import tempfile
 
 sys.path.insert(0, str(pathlib.Path(__file__).resolve().parent.parent / "tests"))
+import beside  # noqa: E402
 import full  # noqa: E402
 import lines  # noqa: E402
 import vectors  # noqa: E402
@@ -32,7 +33,7 @@ WRAP = "-Wl," + ",".join(f"--wrap=gate_{name}" for name in ("load_check", "fresh
 CALLS = {"load check": MOST, "fresh state": MOST, "operation": MOST, "rewriting": MOST_REWRITE, "state length": MOST,
          "first bad record": MOST}
 OPERATION = list(CALLS).index("operation")
-CODES = range(1, 13)
+CODES = range(1, 14)
 SIZES = (lines.FULL, lines.WIDE)
 
 # Faults by their names in tests/faulty.c, and how what is said of them begins.
@@ -79,6 +80,7 @@ def records(line):
             ((0, 16, 0), 3, 1, 1, own, line.own(1)[1]),
             ((0, 16, 18), 4, 1, 8, *[described_read(line), 0] * 8),
             ((0, 0, 0), 5, 3),
+            ((0, 0, 0), 13, 3),
             ((0, 0, 15), 6, 2),
             ((15, 0, 15), 6, 1),
             ((16, 0, 16), 7, 1, 1),
@@ -100,13 +102,16 @@ def states(size):
 
 
 def cases(size):
-    """A line in a state, a record, and its answer; the last two bring in a card with a ring, which 21 searches."""
+    """A line in a state, a record, and its answer; then a card with a ring comes in, which 21 searches, and at last
+    come green zones, in which 22 is put and 20 asks more."""
     for place, line in enumerate(states(size)):
         for record, answers in records(line):
             yield line, record, answers[place]
     yield full.rings(**size), vectors.row([8, 1, 1]), 0
     ring = full.ring_links(40, **size)
     yield ring, vectors.row([8, ring.owner, 1]), 21
+    for _, _, line, record, answer in beside.green_cases(size):
+        yield line, record, int(answer)
 
 
 def rows(program, folder, fault):

@@ -20,7 +20,7 @@ import full  # noqa: E402
 import lines  # noqa: E402
 import parts  # noqa: E402
 import search  # noqa: E402
-from measure import expect, one_call, write_files  # noqa: E402
+from measure import expect, one_call, write_case, write_files  # noqa: E402
 
 KEPT = TOP / "tables" / "ratios.ini"
 HEAD = """\
@@ -29,29 +29,33 @@ HEAD = """\
 
 [library / plain C]
 """
-# Loading, question 9 with the searches behind 19 and 21, question 18 with items, and the writer: rows of the table
-# `beside`.
+# Loading, question 9 with the searches behind 19 and 21, question 22, question 18 with items, and the writer: rows of
+# the table `beside`.
 REWRITE, WIDE_WRITE = "full: rewrite the line", "wide: driver writes data, dense"
-ENTERING = "full: activate a ring card, dense"
-ROWS = ("full: load check", "full: driver writes data, dense", ENTERING, REWRITE,
+ENTERING, GREEN_WRITE = "full: activate a ring card, dense", f"full: {beside.GREEN_WRITE}"
+ROWS = ("full: load check", "full: driver writes data, dense", ENTERING, GREEN_WRITE, REWRITE,
         "quarter: card writes eight items, dense", "wide: load check", WIDE_WRITE)
 SLOWER = 1.1
-# Rows of the tables `load`, `search` and `parts`, of which no ratio is kept.
+# Rows of the tables `load`, `search` and `parts`, and a difference of two calls, of which no ratio is kept.
 WIDE_LOAD, WIDE_SEARCH = "longest file: load check", "wide: search, dense"
 QUESTION_9, WIDE_QUESTION_9 = "full: question 9, dense", "wide: question 9, dense"
+GREEN_LEAVING = "full: eight objects leave, dense, in a green zone more"
 # The instructions that the library may take, whatever the plain gate takes: for rewriting a line of full size, for a
-# card that comes in there, for question 9 on one and on a line of 192 objects, and for a load, a search and a whole
-# write on a line of 192 objects.
+# card that comes in there, for a driver's write in a green zone, for what leaving one takes more than leaving another
+# zone, for question 9 on one and on a line of 192 objects, and for a load, a search and a whole write on a line of 192
+# objects.
 MOST_REWRITE = 65000
 MOST_ENTERING = 95000
+MOST_GREEN_WRITE = 38000
+MOST_GREEN_LEAVING = 8000
 MOST_QUESTION_9 = 4500
 MOST_WIDE_QUESTION_9 = 2 * MOST_QUESTION_9
 MOST_WIDE_LOAD = 50000
 MOST_WIDE_SEARCH = 110000
 MOST_WIDE_WRITE = 175000
-BOUNDS = {REWRITE: MOST_REWRITE, ENTERING: MOST_ENTERING, QUESTION_9: MOST_QUESTION_9,
-          WIDE_QUESTION_9: MOST_WIDE_QUESTION_9, WIDE_LOAD: MOST_WIDE_LOAD, WIDE_SEARCH: MOST_WIDE_SEARCH,
-          WIDE_WRITE: MOST_WIDE_WRITE}
+BOUNDS = {REWRITE: MOST_REWRITE, ENTERING: MOST_ENTERING, GREEN_WRITE: MOST_GREEN_WRITE,
+          GREEN_LEAVING: MOST_GREEN_LEAVING, QUESTION_9: MOST_QUESTION_9, WIDE_QUESTION_9: MOST_WIDE_QUESTION_9,
+          WIDE_LOAD: MOST_WIDE_LOAD, WIDE_SEARCH: MOST_WIDE_SEARCH, WIDE_WRITE: MOST_WIDE_WRITE}
 # Every call of a row is the same, so that few are enough.
 TIMES = 10
 
@@ -69,19 +73,31 @@ def measured():
 
 def bounded():
     """The library's instructions of the rows that have a bound alone: question 9 on dense lines, a load of the longest
-    file, in which all entries name objects by two bytes, and a dense search."""
+    file, in which all entries name objects by two bytes, a dense search, and what a green zone asks of what leaves."""
     with tempfile.TemporaryDirectory() as folder:
         made = search.program(folder)
         count, answer = one_call(folder, made, *write_files(folder, full.longest(), b"", b""), "load", times=TIMES)
         expect(WIDE_LOAD, "0", answer)
         label, line, stated = next(case for case in lines.searches() if case[0] == lines.DENSE_WIDE)
         return {WIDE_LOAD: count, WIDE_SEARCH: search.counted(folder, made, label, line, stated, times=TIMES)[1],
-                QUESTION_9: question_9(folder, lines.FULL), WIDE_QUESTION_9: question_9(folder, lines.WIDE)}
+                QUESTION_9: question_9(folder, lines.FULL), WIDE_QUESTION_9: question_9(folder, lines.WIDE),
+                GREEN_LEAVING: leaving_green(folder, made)}
 
 
 def question_9(folder, size):
     """What a call that gets to question 10 takes more than one that question 8 refuses."""
     return next(more for label, _, _, more in parts.steps(folder, size, TIMES) if label == parts.QUESTION_9)
+
+
+def leaving_green(folder, made):
+    """What eight objects that leave take more in a green zone than in another one; both calls are accepted."""
+    line, counts = full.green(**lines.FULL), []
+    for line.green in (False, True):
+        count, answer = one_call(folder, made, *write_case(folder, line, beside.leave_eight(line)), "operate",
+                                 times=TIMES)
+        expect(GREEN_LEAVING, "0", answer)
+        counts.append(count)
+    return counts[1] - counts[0]
 
 
 def kept():
