@@ -9,6 +9,7 @@ ghost use Rattle.model.specs.Gate.{judged};
 ghost use Rattle.searches.specs.Ready.{Accepted, Ready, Complete};
 ghost use Rattle.searches.specs.Asking.{stores, leaves, enters};
 ghost use Rattle.gate.specs.Carried.{carried};
+use crate::zones::keeps_green;
 use effect::ANSWER_BYTES;
 use effect::carry_out;
 use model::Actor;
@@ -24,7 +25,6 @@ use searches::next::follows_confined;
 use searches::next::is_entering;
 use searches::transfers::are_described;
 use searches::transfers::is_storing;
-use searches::zones::keeps_green;
 use state::formed::is_formed;
 use state::look::right_length;
 

@@ -1,21 +1,26 @@
 -- Laws of the stricter question 20, in the form in which the functions' proofs cite them; and that it is the model's.
 -- Assumes nothing.
-use Prim.Native.Nat.{ℕ, zero, suc, _≤_}
+use Prim.Native.Nat.{ℕ, zero, suc, _+_, _≤_, _<_}
 use mathlib.Core.Path.{_≡_, refl, sym, ap, _∙_, subst}
 use mathlib.Core.List.{List, [], _∷_}
-use mathlib.Core.Bool.{Bool, true, false, not, _&&_, _||_, true≢false, false≢true}
+use mathlib.Core.Bool.{Bool, true, false, not, cond, _&&_, _||_, true≢false, false≢true}
 use native.Mathlib.Decide.{ℕ-discrete}
-use lib.ListN.{getD}
+use native.Mathlib.Omega.{arith}
+use lib.ListN.{length, getD, set, replicate, getD-replicate}
+use lib.Seq.{getD-set-same, getD-set-other}
 use lib.Dec.{eqb}
 use borrow.Author.Tests.{eq-eqb, ne-eqb, le-leb}
 use Rattle.model.specs.Base.{all, every}
 use Rattle.model.specs.Config.{kindOf, from1to, descriptor, Entry, entryAt, entries}
-use Rattle.model.specs.State.{State, green, objectIn, held}
+use Rattle.model.specs.State.{State, green, objectIn, held, view}
 use Rattle.model.specs.Questions.{letsGo}
+use Rattle.model.specs.declared.Counts.{Counts}
 use Rattle.model.specs.declared.Config.{Config}
 use Rattle.model.proofs.SameFile.{every-same}
 use Rattle.sound.specs.Sound.{everyTo, allFrom, valuePasses}
-use Rattle.green.specs.Rule.{sparedBy, goesBy}
+use Rattle.scene.specs.Rules.{holdsValue}
+use Rattle.scene.specs.Scene.{AreaOk}
+use Rattle.green.specs.Rule.{sparedBy, Spares, goesBy, goesIf}
 
 -- an entry, by what is read of it: its object o and that object's mark x
 pub spared-at : (marks table : List ℕ) (at : ℕ) {o x : ℕ} → o ≡ getD table at 0 → x ≡ getD marks o 0
@@ -23,22 +28,69 @@ pub spared-at : (marks table : List ℕ) (at : ℕ) {o x : ℕ} → o ≡ getD t
 unfolding sparedBy
 spared-at marks table at e h = rw (← e, ← h)
 
--- a descriptor that stays: by its kind k, its partition q and its mark x
-module _ (kind count table : List ℕ) (b : State) (marks : List ℕ) (z n : ℕ) {k q : ℕ} (of-kind : k ≡ getD kind n 0)
+-- the table of values, one more
+module _ (count table marks : List ℕ) where
+  pub spares-start : (n : ℕ) → 1 ≤ n → Spares 0 count table marks (replicate n 1)
+  unfolding Spares valuePasses
+  spares-start n h v l =
+      let z : v ≡ 0 = omega arith in
+      rw (z, getD-replicate {A = ℕ} n 0 1 0 (omega arith))
+
+  pub spares-more : (n i : ℕ) (spares : List ℕ) (x : ℕ) (t : Bool) → length spares ≡ n → i + 1 < n
+      → Spares i count table marks spares → t ≡ valuePasses (sparedBy marks) count table (i + 1) → x ≡ cond t 1 0
+      → Spares (i + 1) count table marks (set spares (i + 1) x)
+  unfolding Spares
+  spares-more n i spares x t long l h e q v k = go (ℕ-discrete v (i + 1))
+    where
+      marked : (s : Bool) → eqb (cond s 1 0) 1 ≡ s
+      marked true = refl
+      marked false = refl
+
+      go : Dec (v ≡ i + 1)
+          → eqb (getD (set spares (i + 1) x) v 0) 1 ≡ valuePasses (sparedBy marks) count table v
+      go (yes z) =
+          rw (z, getD-set-same spares (i + 1) x 0 (omega (arith, long)), q) (marked t ∙ e)
+      go (no z) = rw (getD-set-other spares (i + 1) v x 0 z) (h v (omega arith))
+
+-- a descriptor that stays: by its kind k, its partition q, its mark x and what is known of its value
+module _ (kind : List ℕ) (b : State) (marks spares : List ℕ) (z n : ℕ) {k q : ℕ} (of-kind : k ≡ getD kind n 0)
     (place : q ≡ objectIn b n) where
-  pub goes-elsewhere : not ((eqb k 1 || eqb k 4) && eqb q z) ≡ true → true ≡ goesBy kind count table b marks z n
-  unfolding goesBy
+  pub goes-elsewhere : not ((eqb k 1 || eqb k 4) && eqb q z) ≡ true → true ≡ goesIf kind b marks spares z n
+  unfolding goesIf
   goes-elsewhere h = rw (← of-kind, ← place, h)
 
   module _ (here : not ((eqb k 1 || eqb k 4) && eqb q z) ≡ false) {x : ℕ} (mark : x ≡ getD marks n 0) where
-    pub goes-along : x ≡ 1 → true ≡ goesBy kind count table b marks z n
-    unfolding goesBy
+    pub goes-along : x ≡ 1 → true ≡ goesIf kind b marks spares z n
+    unfolding goesIf
     goes-along h = rw (← of-kind, ← place, here, ← mark, eq-eqb x 1 h)
 
-    pub goes-value : (x ≡ 1 → ⊥) → {v : ℕ} → v ≡ held b n → {r : Bool}
-        → r ≡ valuePasses (sparedBy marks) count table v → r ≡ goesBy kind count table b marks z n
-    unfolding goesBy
-    goes-value h e g = rw (← of-kind, ← place, here, ← mark, ne-eqb x 1 h, ← e) g
+    pub goes-value : (x ≡ 1 → ⊥) → {v : ℕ} → v ≡ held b n → {y : ℕ} → y ≡ getD spares v 0
+        → eqb y 1 ≡ goesIf kind b marks spares z n
+    unfolding goesIf
+    goes-value h e g = rw (← of-kind, ← place, here, ← mark, ne-eqb x 1 h, ← e, ← g)
+
+-- by the table of values it is as by the values
+module _ (counts : Counts) (kind count table area : List ℕ) (room : ℕ) (ok : AreaOk counts kind area room)
+    (marks spares : List ℕ) (z : ℕ) (told : Spares (counts .values) count table marks spares) where
+  same-at : (n : ℕ) → 1 ≤ n → n ≤ counts .objects
+      → goesIf kind (view room area) marks spares z n ≡ goesBy kind count table (view room area) marks z n
+  unfolding goesIf goesBy Spares
+  same-at n low high = go (holdsValue (getD kind n 0)) refl
+    where
+      b : State
+      b = view room area
+
+      go : (t : Bool) → holdsValue (getD kind n 0) ≡ t
+          → not (t && eqb (objectIn b n) z) || eqb (getD marks n 0) 1 || eqb (getD spares (held b n) 0) 1
+          ≡ not (t && eqb (objectIn b n) z) || eqb (getD marks n 0) 1
+          || valuePasses (sparedBy marks) count table (held b n)
+      go true e = rw (told (held b n) (ok .held-known n (record { low = low; high = high }) e))
+      go false e = refl
+
+  pub by-values : {r : Bool} → r ≡ everyTo (counts .objects) (goesIf kind (view room area) marks spares z)
+      → r ≡ everyTo (counts .objects) (goesBy kind count table (view room area) marks z)
+  unfolding everyTo
+  by-values e = e ∙ every-same (counts .objects) _ _ same-at
 
 -- the zone is green, or it is not
 module _ (b : State) (z : ℕ) {g : Bool} (colour : g ≡ green b z) where

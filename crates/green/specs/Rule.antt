@@ -1,6 +1,6 @@
 -- Question 22 and the stricter question 20 by the columns and the numbers that they look at, so that a loop is lent
 -- columns and no configuration. proofs/Ruling has that these are the model's.
-use Prim.Native.Nat.{ℕ, _<_}
+use Prim.Native.Nat.{ℕ, _≤_, _<_}
 use mathlib.Core.Path.{_≡_}
 use mathlib.Core.List.{List}
 use mathlib.Core.Bool.{Bool, true, false, not, _&&_, _||_}
@@ -74,3 +74,14 @@ unfoldable pub goesBy : List ℕ → List ℕ → List ℕ → State → List �
 goesBy kind count entries b table z n =
     not ((eqb (getD kind n 0) 1 || eqb (getD kind n 0) 4) && eqb (objectIn b n) z) || eqb (getD table n 0) 1
     || valuePasses (sparedBy table) count entries (held b n)
+
+-- the table has a 1 at exactly the values up to a number whose entries name no object with a 1
+unfoldable pub Spares : ℕ → List ℕ → List ℕ → List ℕ → List ℕ → Type 0
+Spares values count entries table spares =
+    (v : ℕ) → v ≤ values → eqb (getD spares v 0) 1 ≡ valuePasses (sparedBy table) count entries v
+
+-- the same as goesBy, by that table
+unfoldable pub goesIf : List ℕ → State → List ℕ → List ℕ → ℕ → ℕ → Bool
+goesIf kind b table spares z n =
+    not ((eqb (getD kind n 0) 1 || eqb (getD kind n 0) 4) && eqb (objectIn b n) z) || eqb (getD table n 0) 1
+    || eqb (getD spares (held b n) 0) 1

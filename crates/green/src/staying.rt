@@ -1,13 +1,15 @@
 // The stricter question 20: no descriptor that stays in the zone names an object that leaves it, which the table has a
 // 1 for.
 ghost use mathlib.Core.Path.{_≡_};
-ghost use mathlib.Core.Bool.{not, _||_};
+ghost use mathlib.Core.Bool.{not, cond, _||_};
 ghost use Prim.Native.Nat.{_+_, _*_, _≤_};
 ghost use lib.ListN.{length};
-ghost use Rattle.model.specs.Config.{entryBytes, entryAt};
+ghost use Rattle.model.specs.Config.{mostObjects, mostValues, entryBytes, entryAt};
 ghost use Rattle.model.specs.State.{areaLength, green, view};
 ghost use Rattle.sound.specs.Sound.{farPlace, everyTo, allFrom, valuePasses};
-ghost use Rattle.green.specs.Rule.{sparedBy, goesBy};
+ghost use Rattle.green.specs.Rule.{sparedBy, Spares, goesBy, goesIf};
+ghost use Rattle.scene.specs.Scene.{In, AreaOk};
+use model::Counts;
 use model::ENTRY_BYTES;
 use model::ENTRY_SLOTS;
 use model::HARDCODED_KIND;
@@ -16,9 +18,9 @@ use model::TRANSFER_KIND;
 use model::VALUE_SLOTS;
 use model::byte_at;
 use model::entry_place;
+use model::wide;
+use scene::area;
 use state::look::is_green;
-use state::look::object;
-use state::look::value;
 
 // The entry at a place of the table of entries names none of them.
 fn is_spared<'a>(entries: &'a [u8], table: &'a [u8; OBJECT_SLOTS], at: usize) -> bool
@@ -26,6 +28,13 @@ fn is_spared<'a>(entries: &'a [u8], table: &'a [u8; OBJECT_SLOTS], at: usize) ->
 {
     let o = byte_at(entries, at) as usize;
     byte_at(table, o) != 1
+}
+
+// What the table of values has for one: 1 if it names none of them.
+fn spared_mark(spares: bool) -> u8
+    ensures { λ r. ⌜ r ≡ cond spares 1 0 ⌝ }
+{
+    if spares { 1 } else { 0 }
 }
 
 // The k entries from a place on do not.
@@ -62,55 +71,77 @@ fn value_spares<'a>(
     entries_spare(entries, table, entry_place(v, 1), k)
 }
 
-// Object n, if it is a descriptor that stays in zone z, holds such a value.
-fn lets_go<'a>(
-    kind: &'a [u8; OBJECT_SLOTS],
+// A 1 at each of the values 1 to `values` that does. A line has fewer values than descriptors, so that each is looked
+// through once.
+fn mark_values<'a>(
+    values: u8,
     count: &'a [u8; VALUE_SLOTS],
     entries: &'a [u8; ENTRY_SLOTS],
+    table: &'a [u8; OBJECT_SLOTS],
+) -> [u8; VALUE_SLOTS]
+    requires { ⌜ values ≤ mostValues ⌝ }
+    ensures { λ r.
+        ⌜ Spares values (now (count .entry)) (now (entries .entry)) (now (table .entry)) r ⌝ }
+{
+    let mut spares = [1u8; VALUE_SLOTS];
+    let mut v: u8 = 0;
+    while v < values {
+        v += 1;
+        spares[v as usize] = spared_mark(value_spares(count, entries, table, v));
+    }
+    spares
+}
+
+// Object n, if it is a descriptor that stays in zone z, holds a value that names none of them.
+fn lets_go<'a>(
+    kind: &'a [u8; OBJECT_SLOTS],
     area: &[u8],
     room: usize,
     table: &'a [u8; OBJECT_SLOTS],
+    spares: &'a [u8; VALUE_SLOTS],
     z: usize,
     n: usize,
 ) -> bool
     requires { ⌜ length (now area) ≡ areaLength room ⌝ }
+    requires { ⌜ In room n ⌝ }
+    requires { ⌜ n ≤ mostObjects ⌝ }
     ensures { λ r.
-        ⌜ r ≡ goesBy (now (kind .entry)) (now (count .entry)) (now (entries .entry)) (view room (now (area .entry)))
-        (now (table .entry)) z n ⌝ }
+        ⌜ r ≡ goesIf (now (kind .entry)) (view room (now (area .entry))) (now (table .entry)) (now (spares .entry)) z
+        n ⌝ }
 {
-    let k = byte_at(kind, n);
-    let here = object(area, room, n) as usize;
+    let k = kind[n];
+    let here = wide(area::object_in(area, room, n));
     if !(((k == TRANSFER_KIND) | (k == HARDCODED_KIND)) & (here == z)) {
         return true;
     }
-    if byte_at(table, n) == 1 {
+    if table[n] == 1 {
         return true;
     }
-    value_spares(count, entries, table, value(area, room, n))
+    byte_at(spares, wide(area::held_by(area, room, n))) == 1
 }
 
 // Each of the objects does.
 fn all_let_go<'a>(
     objects: u8,
     kind: &'a [u8; OBJECT_SLOTS],
-    count: &'a [u8; VALUE_SLOTS],
-    entries: &'a [u8; ENTRY_SLOTS],
     area: &[u8],
     room: usize,
     table: &'a [u8; OBJECT_SLOTS],
+    spares: &'a [u8; VALUE_SLOTS],
     z: usize,
 ) -> bool
     requires { ⌜ length (now area) ≡ areaLength room ⌝ }
+    requires { ⌜ objects ≤ room ⌝ }
+    requires { ⌜ objects ≤ mostObjects ⌝ }
     ensures { λ r.
         ⌜ r ≡ everyTo objects
-        (goesBy (now (kind .entry)) (now (count .entry)) (now (entries .entry)) (view room (now (area .entry)))
-        (now (table .entry)) z) ⌝ }
+        (goesIf (now (kind .entry)) (view room (now (area .entry))) (now (table .entry)) (now (spares .entry)) z) ⌝ }
 {
     let last = objects as usize;
     let mut n: usize = 0;
     while n < last {
         n += 1;
-        if !lets_go(kind, count, entries, area, room, table, z, n) {
+        if !lets_go(kind, area, room, table, spares, z, n) {
             return false;
         }
     }
@@ -119,7 +150,7 @@ fn all_let_go<'a>(
 
 // In a green zone each of the objects does; another zone lets everything go.
 pub fn zone_lets_go<'a>(
-    objects: u8,
+    counts: Counts,
     kind: &'a [u8; OBJECT_SLOTS],
     count: &'a [u8; VALUE_SLOTS],
     entries: &'a [u8; ENTRY_SLOTS],
@@ -128,14 +159,15 @@ pub fn zone_lets_go<'a>(
     table: &'a [u8; OBJECT_SLOTS],
     z: usize,
 ) -> bool
-    requires { ⌜ length (now area) ≡ areaLength room ⌝ }
+    requires { ⌜ AreaOk counts (now kind) (now area) room ⌝ }
     ensures { λ r.
-        ⌜ r ≡ (not (green (view room (now (area .entry))) z) || everyTo objects
+        ⌜ r ≡ (not (green (view room (now (area .entry))) z) || everyTo (counts .objects)
         (goesBy (now (kind .entry)) (now (count .entry)) (now (entries .entry)) (view room (now (area .entry)))
         (now (table .entry)) z)) ⌝ }
 {
     if !is_green(area, room, z) {
         return true;
     }
-    all_let_go(objects, kind, count, entries, area, room, table, z)
+    let spares = mark_values(counts.values, count, entries, table);
+    all_let_go(counts.objects, kind, area, room, table, &spares, z)
 }

@@ -157,7 +157,7 @@ pub fn stays_unnamed(
     }
     let table = mark_concerned(config, op, a);
     if !zone_lets_go(
-        config.counts.objects,
+        config.counts,
         &config.objects.kind,
         &config.values.count,
         &config.values.entries,

@@ -8,16 +8,16 @@ use borrow.Author.Needs.{needs}
 use Rattle.model.specs.State.{view}
 use Rattle.sound.specs.Sound.{everyTo}
 use Rattle.sound.proofs.Questions
-use Rattle.green.specs.Rule.{goesBy}
+use Rattle.green.specs.Rule.{goesIf}
 use Rattle.green.proofs.staying.all_let_go.Statement.{statement}
 use Rattle.green.proofs.staying.all_let_go.Tie as tie
 
 abbrev Inv-loop : tie.InvT-loop
-Inv-loop objects kind count entries area room table z last n₀ n =
-    (n ≤ last) × (everyTo n (goesBy kind count entries (view room area) table z) ≡ true)
+Inv-loop objects kind area room table spares z last n₀ n =
+    (n ≤ last) × (everyTo n (goesIf kind (view room area) table spares z) ≡ true)
 
 abbrev μ-loop : tie.MeasureT-loop
-μ-loop objects kind count entries area room table z last n₀ n = last - n
+μ-loop objects kind area room table spares z last n₀ n = last - n
 
 loop-holds : tie.Need-loop-holds Inv-loop μ-loop
 loop-holds c = (omega arith, Questions.every-to-start _)

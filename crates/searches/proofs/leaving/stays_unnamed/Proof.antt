@@ -31,7 +31,7 @@ zone-lets-go-requires c κs = search needs
 returns-2 : tie.Need-returns-2
 returns-2 c =
     let z = c .before .before in
-    let m = z .before .before .before .before .before .before in
+    let m = z .before .before .before .before .before .before .before in
     let i = m .before in
     let a = i .before .before .before in
     Unnamed.q20-clings _ _ _ _ _ (sym (i .before .is-leaving .ensures) ∙ not-false _ (i .if1 .left))
@@ -51,7 +51,7 @@ returns-3 c =
     let d = c .before .before in
     let t = d .before in
     let z = t .before .before in
-    let m = z .before .before .before .before .before .before in
+    let m = z .before .before .before .before .before .before .before in
     let i = m .before in
     let a = i .before .before .before in
     Unnamed.q20-table _ _ _ _ _ (sym (i .before .is-leaving .ensures) ∙ not-false _ (i .if1 .left))

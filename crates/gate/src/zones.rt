@@ -2,15 +2,16 @@
 ghost use mathlib.Core.Path.{_≡_};
 ghost use Rattle.model.specs.State.{view};
 ghost use Rattle.model.specs.Questions.{q22};
 ghost use Rattle.searches.specs.Ready.{Ready, Asked};
 use green::rule::keeps_rule;
 use model::Actor;
 use model::Config;
 use model::Family;
 use model::Operation;
 
-// 22.
-pub fn keeps_green(
+// 22. It stands in this crate, so that it is compiled into the call: from another it would be handed a copy of the
+// configuration.
+pub(crate) fn keeps_green(
     config: Config,
     area: &[u8],
     room: usize,

@@ -1,7 +1,7 @@
--- `searches::zones::keeps_green` meets its contract: the rule looks at the columns that are lent. Assumes nothing.
+-- `gate::zones::keeps_green` meets its contract: the rule looks at the columns that are lent. Assumes nothing.
 use Rattle.searches.proofs.Readying
-use Rattle.searches.proofs.zones.keeps_green.Statement.{statement}
-use Rattle.searches.proofs.zones.keeps_green.Tie as tie
+use Rattle.gate.proofs.zones.keeps_green.Statement.{statement}
+use Rattle.gate.proofs.zones.keeps_green.Tie as tie
 
 keeps-rule-requires : tie.Need-keeps-rule-requires
 keeps-rule-requires c κs =
