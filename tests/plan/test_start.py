@@ -132,6 +132,19 @@ class BringUps(unittest.TestCase):
         self.assertEqual(judged.last_state().contents, {1: 1, 2: 2, 3: 1})
         self.assertTrue(comes_back(config, judged.last_state()))
 
+    def test_a_driver_that_kept_what_names_a_green_zone_without_one(self):
+        """The only driver fills zone 2, which names what its own descriptor kept: there it writes that, and leaves."""
+        config = Config({1: "D1"}, {1: Device("C1", 1)}, {
+            1: Object("O1", w.TRANSFER, w.DRIVER, 1), 2: Object("O2", w.HARDCODED, w.DEVICE, 1),
+            3: Object("O3", w.TRANSFER, w.DEVICE, 1), 4: Object("O4", w.DATA, w.EXTERNAL, 0)},
+            {1: Value("V1", (Entry(3, w.READ, 0),)), 2: Value("V2", (Entry(4, w.READ, 0),))})
+        items = (Item(1, w.VALUE_FORM, 2), Item(3, w.VALUE_FORM, 2))
+        judged = judge_moves(PROGRAM, config, [Move(2, 13, where=1), Move(3, 13, where=2), Move(4, 7, 1, 2),
+                                               Move(5, 8, 1, 2), Move(6, 9, 0, 2, (4,)), Move(7, 1, 1, what=items),
+                                               Move(8, 10, 1)])
+        self.assertTrue(judged.verdict.accepted)
+        self.assertTrue(comes_back(config, judged.last_state()))
+
     def test_rings_of_which_one_order_is_accepted(self):
         """C1 puts a job into the mailbox, C2 does what it finds there: to read C3's data. C3 reads C2's data.
 
