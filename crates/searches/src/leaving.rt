@@ -120,15 +120,13 @@ fn is_unnamed(
     ensures { λ r.
         ⌜ r ≡ unnamed config (view room (now (area .entry))) (λ o. eqb (getD (now (table .entry)) o 0) 1) but ⌝ }
 {
-    let t = config.objects;
-    let w = config.values;
     let found = naming(
         config.counts,
-        &t.kind,
-        &t.class,
-        &t.owner,
-        &w.count,
-        &w.entries,
+        &config.objects.kind,
+        &config.objects.class,
+        &config.objects.owner,
+        &config.values.count,
+        &config.values.entries,
         area,
         room,
         table,

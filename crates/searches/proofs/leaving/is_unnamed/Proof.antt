@@ -13,9 +13,9 @@ is-nothing-requires c κs = search needs
 
 returns : tie.Need-returns
 returns c =
-    let c₁ = c .before .before .before .before .before .before .before .before .before .before .before .before in
+    let c₁ = c .before .before .before .before .before .before .before .before .before .before in
     c .is-nothing .ensures
-    ∙ nothing-of 19 (c .before .naming .result) _ (c .before .naming .ensures .0 (c₁ .args .config .devices))
+    ∙ nothing-of 19 (c .before .naming .result) _ (c .before .naming .ensures .0 (c₁ .args .t1 .devices))
 
 pub is-unnamed-spec : {M : Type 1} → statement M
 is-unnamed-spec = tie.close (tie.spec naming-requires is-nothing-requires returns)
