@@ -71,7 +71,7 @@ fn is_quiet<'a>(kind: &'a [u8; OBJECT_SLOTS], entries: &'a [u8], at: usize) -> b
     !((mode == WRITE_MODE) | (mode == BOTH_MODE))
 }
 
-// It names an object of zone p that is not of kind 4; if it may be anywhere, it names what it likes.
+// An entry names an object of zone p that is not of kind 4; if it may be anywhere, it names what it likes.
 fn is_home<'a>(
     kind: &'a [u8; OBJECT_SLOTS],
     entries: &'a [u8],
@@ -276,7 +276,7 @@ fn enters_keeping<'a>(
     value_passes(kind, count, entries, area, room, true, 0, v)
 }
 
-// 22.
+// 22, of an operation of any family: of writes and copies by what they store, of activations by what comes in.
 pub fn keeps_rule<'a>(
     kind: &'a [u8; OBJECT_SLOTS],
     hardcoded: &'a [u8; DEVICE_SLOTS],

@@ -1,6 +1,6 @@
 -- Demand 2, said of a whole operation call: for every file, state area, operation and answer area, whatever their
 -- length and content. When it is accepted; and when it is refused for what devices could come to do (document 01:
--- reach).
+-- reach), or for the rule of a green zone.
 use Prim.Native.Nat.{ℕ, _≤_, _<_}
 use mathlib.Core.Path.{_≡_}
 use mathlib.Core.Logic.{_↔_, _⊎_}

@@ -24,7 +24,7 @@ use model::Counts;
 use model::DEVICE_SLOTS;
 use model::OBJECT_SLOTS;
 
-// Every status is 0, 1 or 2, and that of partition 0 is 0.
+// Every status is 0 to 3, and that of partition 0 is 0.
 fn statuses_formed(area: &[u8], room: usize) -> bool
     requires { ⌜ length (now area) ≡ areaLength room ⌝ }
     ensures { λ r. ⌜ r ≡ statusesRight (view room (now (area .entry))) ⌝ }
