@@ -61,8 +61,8 @@ uint64_t __wrap_gate_first_bad(const uint8_t *line, size_t line_len, const uint8
 uint64_t __wrap_gate_rewrite(const uint8_t *line, size_t line_len, uint8_t *out, size_t out_len);
 
 enum { OWN_STACK = 256 * 1024, DEEP = 16 * 1024 };
-// The most objects that there can be; where a state area ends to have standings; the code that creates a green zone,
-// its standing and that of others.
+// The most objects that there can be; how many standings a state area has; the code that creates a green zone, its
+// standing and that of others.
 enum { MOST_OBJECTS = 192, PARTITIONS = 64, CREATE_GREEN = 13, EXISTING = 1, GREEN = 3 };
 
 static const char *const NAMES[] = {"load_check", "fresh", "operate", "state_bytes", "first_bad", "rewrite"};

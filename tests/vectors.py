@@ -228,7 +228,7 @@ RAW = bytes(range(1, CONTENT + 1))
 def named_records():
     yield "10: an empty record", b"", 10
     for code in (0, 13, 128):
-        yield f"10: code {code}", row([code, 1, 1, 1, 0, 0]), 10
+        yield f"10: code {code}, or bytes left over", row([code, 1, 1, 1, 0, 0]), 10
     yield "10: code 1 in two bytes", bytes([0x81, 0, 1, 1, 1, 0, 0]), 10
     full = row([1, 1, MOST_ITEMS]) + b"".join(row([n, 1]) + RAW for n in range(1, 9))
     yield "10: eight raw items", full, 0

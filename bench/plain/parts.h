@@ -128,13 +128,13 @@ bool described(const struct line *line, const uint8_t *state, const struct opera
 // this returns.
 bool stays_inside(const struct line *line, uint8_t *state, const struct operation *operation);
 
-// Question 20, for codes 10 to 12: that of reach, and what a green zone asks besides, for which the objects are given
-// that leave, with a 1 at their places.
+// Question 20, for codes 10 to 12: that of reach, and what a green zone asks besides.
 bool may_leave(const struct line *line, const uint8_t *state, const struct operation *operation);
 
 // Question 21, for code 8: asked of the state that would follow. The state is as it was when this returns.
 bool enters_inside(const struct line *line, uint8_t *state, const struct operation *operation);
 
+// What a green zone asks besides, of the objects that leave, which have a 1 at their places.
 bool none_named(const struct line *line, const uint8_t *state, const struct operation *operation,
                 const uint8_t *leaving);
 

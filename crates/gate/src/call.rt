@@ -45,8 +45,8 @@ fn next_number(f: Family, a: Actor) -> u8
     if is_entering(f, a) { 21 } else { 19 }
 }
 
-// The number of the first of the questions 11 to 22 that is answered with no, or 0. 22 comes before 19 and 20, which are
-// not put where it says no. What 20 is not about goes no further: a call of it would copy the configuration.
+// The number of the first of the questions 11 to 22 that is answered with no, or 0. 22 comes before 19 and 20, which
+// are not put where it says no. What 20 is not about goes no further: a call of it would copy the configuration.
 fn judge_all(config: Config, area: &[u8], room: usize, op: Operation) -> u8
     requires { ⌜ Ready config room (now area) ⌝ }
     requires { ⌜ Complete op ⌝ }

@@ -117,7 +117,7 @@ pub fn is_formed<'a>(
         (view room (now (area .entry))) ⌝ }
 {
     // The tables are made as in `first_bad`. A function that makes them for both is compiled apart from here, and
-    // question 9 takes 3,190 instructions at full size, and not 2,293.
+    // question 9 took 3,190 instructions at full size, and not 2,293, when that was tried.
     let mut named = [0u8; BYTE_VALUES];
     copy(area, 0, &mut named, 0, PARTITIONS);
     named[0] = EXISTING;

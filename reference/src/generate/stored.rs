@@ -36,7 +36,7 @@ pub const MOST_INPUT: usize = 163_840;
 
 /// What a session can show: files refused by 1 to 6, rows 0 and 10 to 22.
 pub const SHOWN: [usize; 20] = [0, 1, 2, 3, 4, 5, 6, 10, 11, 12, 13, 14, 15, 16, 17, 18, 19, 20, 21, 22];
-/// How many of them a session shows over a line without rings.
+/// How many of them a session shows over a line without rings, in zones that are not green.
 const SHOWN_WITHOUT_RING: usize = 18;
 
 impl Tally {
