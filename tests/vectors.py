@@ -4,13 +4,13 @@
     tests/vectors.py            write crates/vectors/stdin, stdout and cases.txt
     tests/vectors.py --check    fail if what is stored differs
 
-The cases are made here (those of the writer of files in vectors_write.py, of wide lines in vectors_wide.py, of the
-first bad record in vectors_first.py, of ring cards in vectors_rings.py, of green zones in vectors_green.py and
-vectors_zones.py) and judged elsewhere: answers and checksums are the reference's, by its program `vectors`. A named
-case states its answer, and if the reference gives another, nothing is written and the check fails. A case is a byte for
-what is called, its length in two bytes, lower byte first, and its bytes; its row is its place from 1, the answer, and a
-checksum of what the call left (0 where it leaves nothing) or, in 12, a second answer.
-What is called:
+The cases are made here (those of the writer of files in vectors_write.py, of operation records in vectors_records.py,
+of wide lines in vectors_wide.py, of the first bad record in vectors_first.py, of ring cards in vectors_rings.py, of
+green zones in vectors_green.py, vectors_zones.py and vectors_far.py) and judged elsewhere: answers and checksums are
+the reference's, by its program `vectors`. A named case states its answer, and if the reference gives another, nothing
+is written and the check fails. A case is a byte for what is called, its length in two bytes, lower byte first, and its
+bytes; its row is its place from 1, the answer, and a checksum of what the call left (0 where it leaves nothing) or, in
+12, a second answer. What is called:
 
     1         the load check, on a file
     2, 5, 6   a fresh state of a file, in an area of the length that its line needs, a byte shorter or longer (as for
@@ -35,7 +35,9 @@ import subprocess
 import sys
 
 import vectors_first
+import vectors_far
 import vectors_green
+import vectors_records
 import vectors_rings
 import vectors_wide
 import vectors_write
@@ -222,47 +224,6 @@ def named_areas():
     yield "9: any contents of kind 3", {record_at(5) + 9: 255}, 0
 
 
-RAW = bytes(range(1, CONTENT + 1))
-
-
-def named_records():
-    yield "10: an empty record", b"", 10
-    for code in (0, 13, 128):
-        yield f"10: code {code}, or bytes left over", row([code, 1, 1, 1, 0, 0]), 10
-    yield "10: code 1 in two bytes", bytes([0x81, 0, 1, 1, 1, 0, 0]), 10
-    full = row([1, 1, MOST_ITEMS]) + b"".join(row([n, 1]) + RAW for n in range(1, 9))
-    yield "10: eight raw items", full, 0
-    yield "10: eight items by value number", row([2, 3, MOST_ITEMS] + [300, 0, 5] * 8), 0
-    yield "10: nine items", row([1, 1, 9] + [2, 0, 3] * 9), 10
-    yield "10: no item", row([1, 1, 0]), 10
-    yield "10: eight pairs", row([3, 1, 8] + [5, 0] * 8), 0
-    yield "10: nine pairs", row([3, 1, 9] + [5, 0] * 9), 10
-    yield "10: eight objects", row([9, 1, 8, 1, 2, 3, 4, 5, 6, 7, 8]), 0
-    yield "10: nine objects", row([12, 1, 9, 1, 2, 3, 4, 5, 6, 7, 8, 9]), 10
-    yield "10: form 2", row([1, 1, 1, 2, 2, 3]), 10
-    yield "10: form 3 with sixteen bytes", row([1, 1, 1, 2, 3]) + RAW, 10
-    yield "10: fifteen raw bytes", row([1, 1, 1, 6, 1]) + RAW[:15], 10
-    yield "10: seventeen raw bytes", row([1, 1, 1, 6, 1]) + RAW + b"\0", 10
-    yield "10: a byte left over", row([5, 1]) + b"\0", 10
-    yield "10: a number of 65,535", row([5, 65535]), 0
-    yield "10: a number of 65,536", row([5, 65536]), 10
-    for code, record in [(c, r) for c, r in SHORT.items()]:
-        yield f"10: code {code}, whole", row(record), 0
-        yield f"10: code {code}, a byte left over", row(record) + b"\0", 10
-    mixed = row([2, 1, 3, 4, 0, 300]) + row([6, 1]) + RAW + row([200, 0, 1])
-    for end in range(len(mixed)):
-        yield f"10: three items, cut after {end} bytes", mixed[:end], 10
-    yield "10: three items, whole", mixed, 0
-    for code, record in SHORT.items():
-        for end in range(1, len(row(record))):
-            yield f"10: code {code}, cut after {end} bytes", row(record)[:end], 10
-
-
-# A short record for each code.
-SHORT = {1: [1, 1, 1, 2, 0, 3], 2: [2, 1, 1, 2, 0, 3], 3: [3, 1, 1, 5, 0], 4: [4, 1, 1, 2, 4], 5: [5, 1], 6: [6, 2],
-         7: [7, 1, 1], 8: [8, 2, 2], 9: [9, 1, 1, 5], 10: [10, 1], 11: [11, 2], 12: [12, 1, 2, 5, 6]}
-
-
 def case(label, call, data, stated=None, left=None):
     """A case and, if it is a named one, the answer that it states; some state what else stands in their row."""
     return label, bytes([call]) + two(len(data)) + data, stated, left
@@ -288,7 +249,7 @@ def small_cases():
         yield case(label, {AREA - 1: FRESH_SHORT, AREA: FRESH, AREA + 1: FRESH_LONG}[length], file, stated)
     for label, changes, stated in named_areas():
         yield case(label, FORMED, bytes([len(L)]) + row(L) + patches({**ACTIVE, **changes}), stated)
-    for label, record, stated in named_records():
+    for label, record, stated in vectors_records.named():
         yield case(label, OPERATION, record, stated)
     # An area's length, and a configuration in memory without the zeros at its end.
     for label, length, memory, stated in vectors_write.cases(L, full_size()):
@@ -317,33 +278,38 @@ def wide_cases():
         yield case(label, WRITE_WIDE, two(length) + bytes(memory).rstrip(b"\0"), stated)
 
 
+def operations(calls):
+    for label, file, length, area, record, stated in calls:
+        yield case(label, OPERATE_IN, two(len(record)) + record + on_area(file, length, area), stated)
+
+
+def first_bad(calls):
+    for label, file, length, area, stated, answer in calls:
+        told = f"; answer {answer}" if answer else ""
+        yield case(f"first bad: {label}{told}", FIRST_BAD, on_area(file, length, area), stated, answer)
+
+
 def ring_cases():
-    for label, data, stated in vectors_rings.files(L):
-        yield case(label, LOAD, data, stated)
+    yield from (case(label, LOAD, data, stated) for label, data, stated in vectors_rings.files(L))
     for label, length, memory, stated in vectors_write.ring_cases(L):
         yield case(label, WRITE, two(length) + bytes(memory).rstrip(b"\0"), stated)
-    for label, file, length, area, record, stated in vectors_rings.calls(L):
-        yield case(label, OPERATE_IN, two(len(record)) + record + on_area(file, length, area), stated)
+    yield from operations(vectors_rings.calls(L))
 
 
 def green_cases():
-    for label, file, length, area, record, stated in [*vectors_green.calls(L), *vectors_zones.calls(L)]:
-        yield case(label, OPERATE_IN, two(len(record)) + record + on_area(file, length, area), stated)
-    for label, record, stated in vectors_zones.records():
-        yield case(label, OPERATION, record, stated)
-    for label, file, length, area, stated, answer in vectors_zones.first_bad():
-        yield case(f"first bad: {label}; answer {answer}", FIRST_BAD, on_area(file, length, area), stated, answer)
+    yield from operations([*vectors_green.calls(L), *vectors_zones.calls(L)])
+    yield from (case(label, OPERATION, record, stated) for label, record, stated in vectors_zones.records())
+    yield from first_bad(vectors_zones.first_bad())
     for label, change, stated in vectors_zones.formed():
         yield case(label, FORMED, bytes([len(L)]) + row(L) + patches({**ACTIVE, **change}), stated)
+    yield from operations(vectors_far.calls(L))
 
 
 def cases():
     """In the order in which they came to be: the bytes of those that were there stay as they were."""
     yield from small_cases()
     yield from wide_cases()
-    for label, file, length, area, stated, answer in vectors_first.cases():
-        told = f"; answer {answer}" if answer else ""
-        yield case(f"first bad: {label}{told}", FIRST_BAD, on_area(file, length, area), stated, answer)
+    yield from first_bad(vectors_first.cases())
     yield from ring_cases()
     yield from green_cases()
 

@@ -200,11 +200,12 @@ module _ (config : Config) (b : State) (op : Operation) {q : ℕ}
           yes : (q19 config b op f a ≡ true) × (q21 config b op f a ≡ true)
           yes = Asking.both-yes (q19 config b op f a) (q21 config b op f a) (sym eₙ ∙ yₙ)
 
-          pub no-20 : {t₂₀ : Bool} → t₂₀ ≡ q20 config b op f a → t₂₀ ≡ false → 20 ≡ judged config op b
+          -- 20 is the answer, or there is none
+          pub last-20 : {t₂₀ : Bool} → t₂₀ ≡ q20 config b op f a → {n : ℕ} → n ≡ ask 20 t₂₀ 0 → n ≡ judged config op b
           unfolding rest
-          no-20 e₂₀ h = sym (by-rest ∙ rw (← e₁₈, y₁₈, yes .0, ← e₂₀, h))
+          last-20 {t₂₀} e₂₀ h = h ∙ sym (by-rest ∙ rw (← e₁₈, y₁₈, yes .0, ← e₂₀, ← e₂₂, y₂₂, yes .1))
 
-          pub all-yes : {t₂₀ : Bool} → t₂₀ ≡ q20 config b op f a → t₂₀ ≡ true → 0 ≡ judged config op b
+          all-yes : {t₂₀ : Bool} → t₂₀ ≡ q20 config b op f a → t₂₀ ≡ true → 0 ≡ judged config op b
           unfolding rest
           all-yes e₂₀ h = sym (by-rest ∙ rw (← e₁₈, y₁₈, yes .0, ← e₂₀, h, ← e₂₂, y₂₂, yes .1))
 

@@ -2,3 +2,4 @@ pub mod Fresh
 pub mod Calling
 pub mod Needed
 pub mod Found
+pub mod Ruling

@@ -5,10 +5,12 @@ ghost use Prim.Native.Nat.{_≤_};
 ghost use mathlib.Core.Bool.{cond, _||_};
 ghost use Rattle.model.specs.Config.{mostObjects};
 ghost use Rattle.model.specs.State.{view};
+ghost use Rattle.model.specs.Questions.{ask};
 ghost use Rattle.model.specs.Gate.{judged};
 ghost use Rattle.searches.specs.Ready.{Accepted, Ready, Complete};
 ghost use Rattle.searches.specs.Asking.{stores, leaves, enters};
 ghost use Rattle.gate.specs.Carried.{carried};
+use crate::zones::is_ruled;
 use crate::zones::keeps_green;
 use effect::ANSWER_BYTES;
 use effect::carry_out;
@@ -45,8 +47,16 @@ fn next_number(f: Family, a: Actor) -> u8
     if is_entering(f, a) { 21 } else { 19 }
 }
 
+// 20, or 0.
+fn leaving_number(yes: bool) -> u8
+    ensures { λ r. ⌜ r ≡ ask 20 yes 0 ⌝ }
+{
+    if yes { ACCEPTED } else { 20 }
+}
+
 // The number of the first of the questions 11 to 22 that is answered with no, or 0. 22 comes before 19 and 20, which
-// are not put where it says no. What 20 is not about goes no further: a call of it would copy the configuration.
+// are not put where it says no. What 20 and 22 are not about is kept from them: a
+// call would copy the configuration.
 fn judge_all(config: Config, area: &[u8], room: usize, op: Operation) -> u8
     requires { ⌜ Ready config room (now area) ⌝ }
     requires { ⌜ Complete op ⌝ }
@@ -71,8 +81,10 @@ fn judge_all(config: Config, area: &[u8], room: usize, op: Operation) -> u8
     if !are_described(config, area, room, op, f, a) {
         return 18;
     }
-    if !keeps_green(config, area, room, op, f, a) {
-        return 22;
+    if is_ruled(area, room, op, f, a) {
+        if !keeps_green(config, area, room, op, f, a) {
+            return 22;
+        }
     }
     if !follows_confined(config, area, room, op, f, a) {
         return next_number(f, a);
@@ -80,11 +92,7 @@ fn judge_all(config: Config, area: &[u8], room: usize, op: Operation) -> u8
     if !is_leaving(f) {
         return ACCEPTED;
     }
-    if stays_unnamed(config, area, room, op, f, a) {
-        ACCEPTED
-    } else {
-        20
-    }
+    leaving_number(stays_unnamed(config, area, room, op, f, a))
 }
 
 // The answer; both areas change at answer 0 only.

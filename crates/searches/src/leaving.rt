@@ -89,10 +89,21 @@ fn mark_concerned(config: Config, op: Operation, a: Actor) -> [u8; OBJECT_SLOTS]
     ensures { λ r. ⌜ Marks r (concerned config op a) ⌝ }
 {
     let n = config.counts.objects as usize;
-    let t = config.objects;
     match a {
-        Actor::Driver => mark_owned(n, &t.class, &t.owner, 1, op.subject),
-        Actor::Device => mark_owned(n, &t.class, &t.owner, 2, op.subject),
+        Actor::Driver => mark_owned(
+            n,
+            &config.objects.class,
+            &config.objects.owner,
+            1,
+            op.subject,
+        ),
+        Actor::Device => mark_owned(
+            n,
+            &config.objects.class,
+            &config.objects.owner,
+            2,
+            op.subject,
+        ),
         Actor::External => mark_listed(&op.objects, op.count),
     }
 }

@@ -1,12 +1,15 @@
 -- `gate::call::judge_all` meets its contract: one law for each way out. Assumes nothing.
 use borrow.Author.Tests.{not-true, not-false}
+use mathlib.Core.Path.{refl, sym, _∙_}
+use mathlib.Core.Logic.{⊎-elim}
 use borrow.Author.Needs.{needs}
+use Rattle.gate.proofs.Ruling
 use Rattle.gate.proofs.Calling
 use Rattle.gate.proofs.call.judge_all.Statement.{statement}
 use Rattle.gate.proofs.call.judge_all.Tie as tie
 
 judge-requires : tie.Need-judge-requires
-judge-requires c κs = c .before .before .before .before .before .before .before .pre .0 .long
+judge-requires c κs = search needs
 
 returns : tie.Need-returns
 returns c =
@@ -32,9 +35,7 @@ returns-2 c =
     (not-true _ (c .if2 .taken))
 
 are-described-requires : tie.Need-are-described-requires
-are-described-requires c κs =
-    let j = c .before .before .before .before .before in
-    let a = j .before .before .before .before .before .before .before .before in (a .pre .0, a .pre .1)
+are-described-requires c κs = search needs
 
 returns-3 : tie.Need-returns-3
 returns-3 c =
@@ -43,9 +44,12 @@ returns-3 c =
     Calling.no-18 _ _ _ (j .judge .ensures (a .args .t1)) (s .before .before .if1 .left) (s .before .family-of .ensures)
     (s .actor-of .ensures) (c .before .are-described .ensures) (not-true _ (c .if3 .taken))
 
+is-ruled-requires : tie.Need-is-ruled-requires
+is-ruled-requires c κs = search needs
+
 keeps-green-requires : tie.Need-keeps-green-requires
 keeps-green-requires c κs =
-    let s = c .before .before .before .before in let j = s .before .before .before in
+    let s = c .before .before .before .before .before .before in let j = s .before .before .before in
     let a = j .before .before .before .before .before .before .before .before in (
       a .pre .0,
       Calling.asked-of _ _ _ (j .judge .ensures (a .args .t1)) (s .before .before .if1 .left)
@@ -54,11 +58,13 @@ keeps-green-requires c κs =
 
 returns-4 : tie.Need-returns-4
 returns-4 c =
-    let d = c .before .before .before in let s = d .before .before .before in let j = s .before .before .before in
+    let d = c .before .before .before .before .before in let s = d .before .before .before in
+    let j = s .before .before .before in
     let a = j .before .before .before .before .before .before .before .before in
     Calling.no-22 _ _ _ (j .judge .ensures (a .args .t1)) (s .before .before .if1 .left)
     (s .before .family-of .ensures) (s .actor-of .ensures) (d .are-described .ensures)
-    (not-false _ (c .before .before .if3 .left)) (c .before .keeps-green .ensures) (not-true _ (c .if4 .taken))
+    (not-false _ (c .before .before .before .before .if3 .left)) (c .before .keeps-green .ensures)
+    (not-true _ (c .if5 .taken))
 
 follows-confined-requires : tie.Need-follows-confined-requires
 follows-confined-requires c κs =
@@ -79,8 +85,9 @@ returns-5 c =
     let a = j .before .before .before .before .before .before .before .before in
     Calling.no-next _ _ _ (j .judge .ensures (a .args .t1)) (s .before .before .if1 .left)
     (s .before .family-of .ensures) (s .actor-of .ensures) (d .are-described .ensures)
-    (not-false _ (w .before .before .if3 .left)) (w .before .keeps-green .ensures) (not-false _ (w .if4 .left))
-    (k .before .follows-confined .ensures) (not-true _ (k .if5 .taken)) (c .next-number .ensures)
+    (not-false _ (w .before .before .if3 .left)) (⊎-elim (λ x. sym (not-false _ (x .2 .left)) ∙ x .1 .ensures)
+    (λ x. Ruling.unruled _ _ _ _ _ (sym (w .before .is-ruled .ensures) ∙ x .left)) (w .if4 .came)) refl
+    (k .before .follows-confined .ensures) (not-true _ (k .if6 .taken)) (c .next-number .ensures)
 
 is-leaving-requires : tie.Need-is-leaving-requires
 is-leaving-requires c κs = search needs
@@ -92,9 +99,10 @@ returns-6 c =
     let a = j .before .before .before .before .before .before .before .before in
     Calling.stays _ _ _ (j .judge .ensures (a .args .t1)) (s .before .before .if1 .left)
     (s .before .family-of .ensures) (s .actor-of .ensures) (d .are-described .ensures)
-    (not-false _ (w .before .before .if3 .left)) (w .before .keeps-green .ensures) (not-false _ (w .if4 .left))
-    (g .follows-confined .ensures) (not-false _ (c .before .before .if5 .left))
-    (c .before .is-leaving .ensures) (not-true _ (c .if6 .taken))
+    (not-false _ (w .before .before .if3 .left)) (⊎-elim (λ x. sym (not-false _ (x .2 .left)) ∙ x .1 .ensures)
+    (λ x. Ruling.unruled _ _ _ _ _ (sym (w .before .is-ruled .ensures) ∙ x .left)) (w .if4 .came)) refl
+    (g .follows-confined .ensures) (not-false _ (c .before .before .if6 .left))
+    (c .before .is-leaving .ensures) (not-true _ (c .if7 .taken))
 
 stays-unnamed-requires : tie.Need-stays-unnamed-requires
 stays-unnamed-requires c κs =
@@ -110,27 +118,20 @@ stays-unnamed-requires c κs =
       ),
     )
 
+leaving-number-requires : tie.Need-leaving-number-requires
+leaving-number-requires c κs = search needs
+
 returns-7 : tie.Need-returns-7
 returns-7 c =
-    let l = c .before .before .before .before in let g = l .before in let w = g .before in
+    let u = c .before in let l = u .before .before .before in let g = l .before in let w = g .before in
     let d = w .before .before .before in let s = d .before .before .before in
     let j = s .before .before .before in let a = j .before .before .before .before .before .before .before .before in
-    Calling.all-yes _ _ _ (j .judge .ensures (a .args .t1)) (s .before .before .if1 .left)
+    Calling.last-20 _ _ _ (j .judge .ensures (a .args .t1)) (s .before .before .if1 .left)
     (s .before .family-of .ensures) (s .actor-of .ensures) (d .are-described .ensures)
-    (not-false _ (w .before .before .if3 .left)) (w .before .keeps-green .ensures) (not-false _ (w .if4 .left))
-    (g .follows-confined .ensures) (not-false _ (l .if5 .left))
-    (c .before .stays-unnamed .ensures) (c .if7 .taken)
-
-returns-8 : tie.Need-returns-8
-returns-8 c =
-    let l = c .before .before .before .before in let g = l .before in let w = g .before in
-    let d = w .before .before .before in let s = d .before .before .before in
-    let j = s .before .before .before in let a = j .before .before .before .before .before .before .before .before in
-    Calling.no-20 _ _ _ (j .judge .ensures (a .args .t1)) (s .before .before .if1 .left)
-    (s .before .family-of .ensures) (s .actor-of .ensures) (d .are-described .ensures)
-    (not-false _ (w .before .before .if3 .left)) (w .before .keeps-green .ensures) (not-false _ (w .if4 .left))
-    (g .follows-confined .ensures) (not-false _ (l .if5 .left))
-    (c .before .stays-unnamed .ensures) (c .if7 .left)
+    (not-false _ (w .before .before .if3 .left)) (⊎-elim (λ x. sym (not-false _ (x .2 .left)) ∙ x .1 .ensures)
+    (λ x. Ruling.unruled _ _ _ _ _ (sym (w .before .is-ruled .ensures) ∙ x .left)) (w .if4 .came)) refl
+    (g .follows-confined .ensures) (not-false _ (l .if6 .left))
+    (u .stays-unnamed .ensures) (c .leaving-number .ensures)
 
 pub judge-all-spec : {M : Type 1} → statement M
 judge-all-spec =
@@ -144,6 +145,7 @@ judge-all-spec =
     returns-2
     are-described-requires
     returns-3
+    is-ruled-requires
     keeps-green-requires
     returns-4
     follows-confined-requires
@@ -152,5 +154,5 @@ judge-all-spec =
     is-leaving-requires
     returns-6
     stays-unnamed-requires
-    returns-7
-    returns-8)
+    leaving-number-requires
+    returns-7)

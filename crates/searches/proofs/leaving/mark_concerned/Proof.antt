@@ -24,7 +24,7 @@ enum-told-3 c = search needs
 
 mark-listed-requires : tie.Need-mark-listed-requires
 mark-listed-requires c κs =
-    let c₁ = c .before .before .before in let c₂ = c₁ .before .before .before .before in
+    let c₁ = c .before .before .before in let c₂ = c₁ .before .before in
     c₂ .pre .1 (c₁ .enum-told3 .given .1)
 
 returns : tie.Need-returns
