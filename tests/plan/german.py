@@ -31,7 +31,7 @@ def values():
 def moves():
     """The line is brought up, runs, is written to, and is taken down again: 35 moves, one of them refused by 16."""
     hall, bench = "Halle Süd", "Prüfplatz"
-    yield from ((verb, "", where, "", "") for verb, where in (("create", hall), ("create green", bench)))
+    yield from (("create", "", where, "", "") for where in (hall, bench))
     yield from (("activate", who, hall, "", "") for who in DRIVERS[:1] + CARDS)
     yield "activate", DRIVERS[1], bench, "", "Gerät von Müller"
     yield "activate", "", hall, "Paketzähler; Barcodeliste Ä–Ö", ""
