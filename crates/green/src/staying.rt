@@ -71,8 +71,7 @@ fn value_spares<'a>(
     entries_spare(entries, table, entry_place(v, 1), k)
 }
 
-// A 1 at each of the values 1 to `values` that does. A line has fewer values than descriptors, so that each is looked
-// through once.
+// A 1 at each of the values 1 to `values` that does: each is looked through once, however many descriptors hold it.
 fn mark_values<'a>(
     values: u8,
     count: &'a [u8; VALUE_SLOTS],
