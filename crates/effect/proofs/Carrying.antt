@@ -11,6 +11,7 @@ use borrow.Author.Tests.{ne-eqb}
 use mir.Syntax.{w8}
 use mir.Val.{Fits}
 use Rattle.model.specs.Base.{put}
+use Rattle.model.specs.State as Columns
 use Rattle.model.specs.State.{contentBytes, State, contentOf, valueBytes, areaLength, view, layout}
 use Rattle.model.specs.Operation.{objectAt, secondAt}
 use Rattle.model.specs.declared.Family.the-variants.{Write, Copy}
@@ -190,17 +191,13 @@ module _ (room : ℕ) (op : Operation) (s d t e : List ℕ)
   pub copy-whole : t ≡ layout (restored (op .seconds) e (op .count) (view room s)) → (config : Config) (a : Actor)
       → t ≡ layout (apply config op Copy a (view room s))
   unfolding restored apply
-  copy-whole f config a = f ∙ ap layout (λ i. record {
-    status = view room s .status;
-    driver = view room s .driver;
-    device = view room s .device;
-    object = view room s .object;
-    content = stores-same (secondAt op) (slot e) (sourceBytes op (view room s))
-        (op .count) (view room s .content)
-        (λ j q. ap (λ (l : List ℕ). slot l j) copy-answer
-        ∙ sources-part op room (view room s) (view-shape room s) (op .count) j
-        (drop (contentBytes * (op .count)) d) q) i;
-  })
+  copy-whole f config a =
+      f
+      ∙ ap (λ (cs : List (List ℕ)). layout (Columns.withContent (view room s) cs))
+      (stores-same (secondAt op) (slot e) (sourceBytes op (view room s)) (op .count) (view room s .content)
+      (λ j q. ap (λ (l : List ℕ). slot l j) copy-answer
+      ∙ sources-part op room (view room s) (view-shape room s) (op .count) j
+      (drop (contentBytes * (op .count)) d) q))
 
 -- a value number fits a byte
 pub item-small : (seconds forms : List ℕ) (i f v : ℕ) → f ≡ getD forms i 0 → f ≡ 0 → v ≡ getD seconds i 0

@@ -13,7 +13,9 @@ use lib.Dec.{eqb, leb}
 use borrow.Author.Tests.{eq-eqb, ne-eqb, lt-leb, not-true, not-false}
 use Rattle.model.specs.Base.{put, number, below}
 use Rattle.model.specs.Config.{owns}
+use Rattle.model.specs.State as Columns
 use Rattle.model.specs.State.{State, cleared, areaLength, view, layout}
+use Rattle.model.specs.declared.Family.{Family}
 use Rattle.model.specs.declared.Family.the-variants.{Create, Destroy, Activate, Deactivate}
 use Rattle.model.specs.declared.Actor.{Actor}
 use Rattle.model.specs.declared.Actor.the-variants.{Driver, Device, External}
@@ -99,13 +101,9 @@ column-on f l k d v false h e =
     sym (sym (partly-more f k l d h)
     ∙ (ap (λ x. set (partly f k l) k x) (sym e ∙ sym (partly-get f k l d h)) ∙ set-getD (partly f k l) k d))
 
-turn-state : (hit clears : Bool) (n p : ℕ) (b : State) → movedAt hit clears n p b ≡ record {
-  status = b .status;
-  driver = b .driver;
-  device = b .device;
-  object = condPut hit (b .object) n p;
-  content = condPut (hit && clears) (b .content) n cleared;
-}
+turn-state : (hit clears : Bool) (n p : ℕ) (b : State) → movedAt hit clears n p b
+    ≡ Columns.withContent (Columns.withObject b (condPut hit (b .object) n p))
+    (condPut (hit && clears) (b .content) n cleared)
 unfolding movedAt condPut withObject withContent
 turn-state false clears n p b = refl
 turn-state true false n p b = refl
@@ -129,15 +127,10 @@ module _ (hit : ℕ → Bool) (clears : Bool) (kind : List ℕ) (p room : ℕ) (
   unfolding movedTo changedTo
   move-state i b sh h =
       turn-state (hit (suc i)) (clearable clears kind (suc i)) (suc i) p (movedTo hit clears kind p i b)
-      ∙ (λ j. record {
-        status = b .status;
-        driver = b .driver;
-        device = b .device;
-        object = column-on (λ n q. cond (hit n) p q) (b .object) i 0 p (hit (suc i)) (omega (arith, sh .objects))
-            refl j;
-        content = column-on (λ n c. cond (hit n && clearable clears kind n) cleared c) (b .content) i cleared cleared
-            (hit (suc i) && clearable clears kind (suc i)) (omega (arith, sh .contents)) refl j;
-      })
+      ∙ (λ j. Columns.withContent (Columns.withObject b
+      (column-on (λ n q. cond (hit n) p q) (b .object) i 0 p (hit (suc i)) (omega (arith, sh .objects)) refl j))
+      (column-on (λ n c. cond (hit n && clearable clears kind n) cleared c) (b .content) i cleared cleared
+      (hit (suc i) && clearable clears kind (suc i)) (omega (arith, sh .contents)) refl j))
 
   pub move-on : (i : ℕ) (s t : List ℕ) (h w : Bool) → view room s ≡ movedTo hit clears kind p i (view room s₀)
       → i < room → h ≡ hit (i + 1) → w ≡ clearable clears kind (i + 1)
@@ -170,15 +163,10 @@ module _ (hit : ℕ → Bool) (clears : Bool) (kind : List ℕ) (p room : ℕ) (
   unfolding movedTo moved changedTo
   move-few i s l m inv h =
       sym (layout-view room s (l ∙ m))
-      ∙ ap layout (inv ∙ λ j. record {
-        status = (view room s₀) .status;
-        driver = (view room s₀) .driver;
-        device = (view room s₀) .device;
-        object = idle-rest (λ n q. cond (hit n) p q) 0 0 i ((view room s₀) .object)
-            (λ n k q. rw (h n (omega arith))) j;
-        content = idle-rest (λ n c. cond (hit n && clearable clears kind n) cleared c) cleared 0 i
-            ((view room s₀) .content) (λ n k q. rw (h n (omega arith))) j;
-      })
+      ∙ ap layout (inv ∙ λ j. Columns.withContent (Columns.withObject (view room s₀)
+      (idle-rest (λ n q. cond (hit n) p q) 0 0 i ((view room s₀) .object) (λ n k q. rw (h n (omega arith))) j))
+      (idle-rest (λ n c. cond (hit n && clearable clears kind n) cleared c) cleared 0 i
+      ((view room s₀) .content) (λ n k q. rw (h n (omega arith))) j))
 
 -- nobody owns a record of an absent object
 owned-past : (objects : ℕ) (class owner : List ℕ) (a k n : ℕ) → objects < n → ownedBy objects class owner a k n ≡ false
@@ -264,18 +252,14 @@ module _ (l : List ℕ) (clears : Bool) (kind : List ℕ) (p : ℕ) where
   unfolding moved
   list-state k b =
       turn-state true (clearable clears kind (getD l k 0)) (getD l k 0) p (moved (listed l k) clears kind p b)
-      ∙ (λ j. record {
-        status = b .status;
-        driver = b .driver;
-        device = b .device;
-        object = number-turn (λ n q. cond (listed l k n) p q) (λ n q. cond (listed l (suc k) n) p q) (getD l k 0) p
-            true (b .object) (λ m x h. rw (listed-other l k m h)) (λ x. rw (listed-same l k)) j;
-        content = number-turn (λ n c. cond (listed l k n && clearable clears kind n) cleared c)
-            (λ n c. cond (listed l (suc k) n && clearable clears kind n) cleared c)
-            (getD l k 0) cleared (clearable clears kind (getD l k 0)) (b .content)
-            (λ m x h. rw (listed-other l k m h))
-            (λ x. rw (listed-same l k) (last (listed l k (getD l k 0)) (clearable clears kind (getD l k 0)) x)) j;
-      })
+      ∙ (λ j. Columns.withContent (Columns.withObject b
+      (number-turn (λ n q. cond (listed l k n) p q) (λ n q. cond (listed l (suc k) n) p q) (getD l k 0) p
+      true (b .object) (λ m x h. rw (listed-other l k m h)) (λ x. rw (listed-same l k)) j))
+      (number-turn (λ n c. cond (listed l k n && clearable clears kind n) cleared c)
+      (λ n c. cond (listed l (suc k) n && clearable clears kind n) cleared c)
+      (getD l k 0) cleared (clearable clears kind (getD l k 0)) (b .content)
+      (λ m x h. rw (listed-other l k m h))
+      (λ x. rw (listed-same l k) (last (listed l k (getD l k 0)) (clearable clears kind (getD l k 0)) x)) j))
     where
       last : (t w : Bool) (x : List ℕ) → cond w cleared x ≡ cond w cleared (cond (t && w) cleared x)
       last true true x = refl
@@ -286,13 +270,9 @@ module _ (l : List ℕ) (clears : Bool) (kind : List ℕ) (p : ℕ) where
   module _ (room : ℕ) (s₀ : List ℕ) where
     pub list-none : view room s₀ ≡ moved (listed l 0) clears kind p (view room s₀)
     unfolding moved listed
-    list-none = λ j. record {
-      status = view room s₀ .status;
-      driver = view room s₀ .driver;
-      device = view room s₀ .device;
-      object = sym (number-same (λ n q. q) (λ n q. q) 0 (view room s₀ .object) (λ m x. refl)) j;
-      content = sym (number-same (λ n c. c) (λ n c. c) 0 (view room s₀ .content) (λ m x. refl)) j;
-    }
+    list-none = λ j. Columns.withContent (Columns.withObject (view room s₀)
+        (sym (number-same (λ n q. q) (λ n q. q) 0 (view room s₀ .object) (λ m x. refl)) j))
+        (sym (number-same (λ n c. c) (λ n c. c) 0 (view room s₀ .content) (λ m x. refl)) j)
 
     pub list-on : (i n : ℕ) (s t : List ℕ) (w : Bool) → view room s ≡ moved (listed l i) clears kind p (view room s₀)
         → n ≡ getD l i 0 → w ≡ clearable clears kind n → t ≡ layout (movedAt true w n p (view room s))
@@ -341,16 +321,16 @@ module _ (room : ℕ) (op : Operation) (s t : List ℕ) where
         go true x = refl
         go false x = refl
 
+    -- what an operation leaves, with contents that are the same
+    still : (f : Family) (a : Actor) {cs : List (List ℕ)} → cs ≡ (apply config op f a (view room s)) .content
+        → layout (Columns.withContent (apply config op f a (view room s)) cs)
+        ≡ layout (apply config op f a (view room s))
+    still f a e = ap (λ (l : List (List ℕ)). layout (Columns.withContent (apply config op f a (view room s)) l)) e
+
     pub deactivated-list : t ≡ layout (moved named false (config .objects .kind) 0 (view room s))
         → t ≡ layout (apply config op Deactivate External (view room s))
     unfolding apply moved listed clearable
-    deactivated-list e = e ∙ ap layout (λ i. record {
-      status = view room s .status;
-      driver = view room s .driver;
-      device = view room s .device;
-      object = number 0 (λ n q. cond (named n) 0 q) (view room s .object);
-      content = kept-content named (view room s .content) i;
-    })
+    deactivated-list e = e ∙ still Deactivate External (kept-content named (view room s .content))
 
     module _ (u : List ℕ) where
       pub activated-driver : t ≡ layout (withDriver (view room s) (op .subject) (op .partition))
@@ -376,13 +356,7 @@ module _ (room : ℕ) (op : Operation) (s t : List ℕ) where
       deactivated-driver e f =
           f ∙ (ap (λ (b : State). layout (moved (owned 1) false (config .objects .kind) 0 b))
           (after-driver room s t (op .subject) 0 e)
-          ∙ ap layout (λ i. record {
-            status = view room s .status;
-            driver = put (view room s .driver) (op .subject) 0;
-            device = view room s .device;
-            object = number 0 (λ n q. cond (owns config 1 (op .subject) n) 0 q) (view room s .object);
-            content = kept-content (owns config 1 (op .subject)) (view room s .content) i;
-          }))
+          ∙ still Deactivate Driver (kept-content (owns config 1 (op .subject)) (view room s .content)))
 
       pub deactivated-device : t ≡ layout (withDevice (view room s) (op .subject) 0)
           → u ≡ layout (moved (owned 2) false (config .objects .kind) 0 (view room t))
@@ -391,10 +365,4 @@ module _ (room : ℕ) (op : Operation) (s t : List ℕ) where
       deactivated-device e f =
           f ∙ (ap (λ (b : State). layout (moved (owned 2) false (config .objects .kind) 0 b))
           (after-device room s t (op .subject) 0 e)
-          ∙ ap layout (λ i. record {
-            status = view room s .status;
-            driver = view room s .driver;
-            device = put (view room s .device) (op .subject) 0;
-            object = number 0 (λ n q. cond (owns config 2 (op .subject) n) 0 q) (view room s .object);
-            content = kept-content (owns config 2 (op .subject)) (view room s .content) i;
-          }))
+          ∙ still Deactivate Device (kept-content (owns config 2 (op .subject)) (view room s .content)))

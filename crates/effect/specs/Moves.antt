@@ -6,6 +6,7 @@ use lib.ListN.{getD}
 use lib.Dec.{eqb}
 use Rattle.model.specs.Base.{number, below}
 use Rattle.model.specs.Config.{owns}
+use Rattle.model.specs.State as Columns
 use Rattle.model.specs.State.{State, cleared}
 use Rattle.state.specs.Change.{withObject, withContent, objectsLent}
 
@@ -22,13 +23,8 @@ clearable clears kind n = clears && not (eqb (getD kind n 0) 4)
 -- all objects that are hit to partition p, cleared unless of kind 4 where that is asked
 unfoldable pub moved : (ℕ → Bool) → Bool → List ℕ → ℕ → State → State
 moved hit clears kind p b =
-    record {
-      status = b .status;
-      driver = b .driver;
-      device = b .device;
-      object = number 0 (λ n q. cond (hit n) p q) (b .object);
-      content = number 0 (λ n c. cond (hit n && clearable clears kind n) cleared c) (b .content);
-    }
+    Columns.withContent (Columns.withObject b (number 0 (λ n q. cond (hit n) p q) (b .object)))
+    (number 0 (λ n c. cond (hit n && clearable clears kind n) cleared c) (b .content))
 
 -- the objects of a driver (class 1) or a device (class 2)
 unfoldable pub ownedBy : ℕ → List ℕ → List ℕ → ℕ → ℕ → ℕ → Bool

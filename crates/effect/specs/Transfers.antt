@@ -3,7 +3,7 @@ use Prim.Native.Nat.{ℕ, _*_, _<_}
 use mathlib.Core.Path.{_≡_}
 use mathlib.Core.List.{List}
 use lib.ListN.{getD}
-use Rattle.model.specs.State.{contentBytes, State}
+use Rattle.model.specs.State.{contentBytes, State, withContent}
 use Rattle.model.specs.Operation.{objectAt}
 use Rattle.model.specs.Effect.{itemBytes, stores, gathered}
 use Rattle.model.specs.declared.Operation.{Operation}
@@ -33,14 +33,7 @@ Small seconds forms k = (i : ℕ) → i < k → getD forms i 0 ≡ 0 → getD se
 
 -- the first k items stored
 unfoldable pub written : Operation → ℕ → State → State
-written op k b =
-    record {
-      status = b .status;
-      driver = b .driver;
-      device = b .device;
-      object = b .object;
-      content = stores (objectAt op) (itemBytes op) k (b .content);
-    }
+written op k b = withContent b (stores (objectAt op) (itemBytes op) k (b .content))
 
 -- the contents of the first k sources
 unfoldable pub sources : Operation → State → ℕ → List ℕ
@@ -52,11 +45,4 @@ slot answer i = part answer (contentBytes * i) contentBytes
 
 -- the first k destinations stored from an answer area
 unfoldable pub restored : List ℕ → List ℕ → ℕ → State → State
-restored seconds answer k b =
-    record {
-      status = b .status;
-      driver = b .driver;
-      device = b .device;
-      object = b .object;
-      content = stores (λ i. getD seconds i 0) (slot answer) k (b .content);
-    }
+restored seconds answer k b = withContent b (stores (λ i. getD seconds i 0) (slot answer) k (b .content))

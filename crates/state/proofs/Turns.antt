@@ -13,6 +13,7 @@ use borrow.Author.Fill.{fill-more}
 use borrow.Author.Tests.{le-leb, lt-leb, ne-eqb}
 use Rattle.model.specs.Base.{number}
 use Rattle.model.specs.Config.{mostDrivers, mostDevices, kindOf, ownerOf, hardcodedOf}
+use Rattle.model.specs.State as Columns
 use Rattle.model.specs.State.{
   partitionCount,
   recordBytes,
@@ -88,23 +89,10 @@ module _ (room : ℕ) (s t : List ℕ) where
 -- both columns of objects done up to k
 unfoldable pub changedTo : (ℕ → ℕ → ℕ) → (ℕ → List ℕ → List ℕ) → ℕ → State → State
 changedTo f g k b =
-    record {
-      status = b .status;
-      driver = b .driver;
-      device = b .device;
-      object = partly f k (b .object);
-      content = partly g k (b .content);
-    }
+    Columns.withContent (Columns.withObject b (partly f k (b .object))) (partly g k (b .content))
 
 unfoldable pub done : (ℕ → ℕ → ℕ) → (ℕ → List ℕ → List ℕ) → State → State
-done f g b =
-    record {
-      status = b .status;
-      driver = b .driver;
-      device = b .device;
-      object = number 0 f (b .object);
-      content = number 0 g (b .content);
-    }
+done f g b = Columns.withContent (Columns.withObject b (number 0 f (b .object))) (number 0 g (b .content))
 
 module _ (f : ℕ → ℕ → ℕ) (g : ℕ → List ℕ → List ℕ) where
   pub changed-to-none : (b : State) → b ≡ changedTo f g 0 b
@@ -113,13 +101,9 @@ module _ (f : ℕ → ℕ → ℕ) (g : ℕ → List ℕ → List ℕ) where
 
   pub changed-to-all : (room k : ℕ) (b : State) → Shape room b → k ≤ room → room ≤ k → changedTo f g k b ≡ done f g b
   unfolding changedTo done
-  changed-to-all room k b sh h q = λ i. record {
-    status = b .status;
-    driver = b .driver;
-    device = b .device;
-    object = (ap (λ (x : ℕ). partly f x (b .object)) e ∙ partly-all f (b .object)) i;
-    content = (ap (λ (x : ℕ). partly g x (b .content)) d ∙ partly-all g (b .content)) i;
-  }
+  changed-to-all room k b sh h q = λ i. Columns.withContent
+      (Columns.withObject b ((ap (λ (x : ℕ). partly f x (b .object)) e ∙ partly-all f (b .object)) i))
+      ((ap (λ (x : ℕ). partly g x (b .content)) d ∙ partly-all g (b .content)) i)
     where
       e : k ≡ length (b .object)
       e = omega (arith, sh .objects)
@@ -180,13 +164,7 @@ module _ (objects : ℕ) (kind owner hardcoded : List ℕ) (n room : ℕ) (s : L
 -- the loop of a fresh state
 unfoldable pub freshTo : Config → ℕ → ℕ → State
 freshTo config room k =
-    record {
-      status = replicate partitionCount 0;
-      driver = replicate mostDrivers 0;
-      device = replicate mostDevices 0;
-      object = replicate room 0;
-      content = partly (λ n c. freshContent config n) k (replicate room cleared);
-    }
+    Columns.withContent (fresh room config) (partly (λ n c. freshContent config n) k (replicate room cleared))
 
 cleared-at : (k i : ℕ) → getD (replicate k cleared) i cleared ≡ cleared
 cleared-at zero i = refl
@@ -195,7 +173,7 @@ cleared-at (suc k) (suc i) = cleared-at k i
 
 module _ (config : Config) (room : ℕ) where
   pub fresh-none : (s : List ℕ) → s ≡ replicate (areaLength room) 0 → view room s ≡ freshTo config room 0
-  unfolding freshTo view
+  unfolding freshTo view fresh
   fresh-none s e =
       ap (view room) (e ∙ sym (replicate-append-replicate recordsFrom (recordBytes * room) 0))
       ∙ (λ i. record {
@@ -234,20 +212,11 @@ module _ (config : Config) (room : ℕ) where
 
       go : (h : Bool) → freshContent config (suc i) ≡ cond h v cleared
           → cond h (withContent (freshTo config room i) (suc i) v) (freshTo config room i) ≡ freshTo config room (suc i)
-      go true q = λ j. record {
-        status = replicate partitionCount 0;
-        driver = replicate mostDrivers 0;
-        device = replicate mostDevices 0;
-        object = replicate room 0;
-        content = (ap (λ (c : List ℕ). set (partly f i cs) i c) (sym q) ∙ more) j;
-      }
-      go false q = λ j. record {
-        status = replicate partitionCount 0;
-        driver = replicate mostDrivers 0;
-        device = replicate mostDevices 0;
-        object = replicate room 0;
-        content = (same ∙ (ap (λ (c : List ℕ). set (partly f i cs) i c) (sym q) ∙ more)) j;
-      }
+      go true q =
+          ap (Columns.withContent (fresh room config)) (ap (λ (c : List ℕ). set (partly f i cs) i c) (sym q) ∙ more)
+      go false q =
+          ap (Columns.withContent (fresh room config))
+          (same ∙ (ap (λ (c : List ℕ). set (partly f i cs) i c) (sym q) ∙ more))
 
   after-value : (s t v : List ℕ) (n : ℕ) (h : Bool) → Sixteen v
       → t ≡ layout (cond h (withContent (view room s) n v) (view room s))
@@ -273,13 +242,9 @@ module _ (config : Config) (room : ℕ) where
       → present ≤ i → s ≡ layout (fresh room config)
   unfolding freshTo fresh
   fresh-end present i s₀ s z l inv p h k =
-      sym (layout-view room s (zero-length (areaLength room) s₀ s z l)) ∙ ap layout (inv ∙ (λ j. record {
-        status = replicate partitionCount 0;
-        driver = replicate mostDrivers 0;
-        device = replicate mostDevices 0;
-        object = replicate room 0;
-        content = go (lesser-end (config .counts .objects) room present i p k) j;
-      }))
+      sym (layout-view room s (zero-length (areaLength room) s₀ s z l))
+      ∙ ap layout (inv ∙ ap (Columns.withContent (fresh room config))
+      (go (lesser-end (config .counts .objects) room present i p k)))
     where
       f : ℕ → List ℕ → List ℕ
       f n c = freshContent config n
