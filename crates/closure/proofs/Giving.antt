@@ -22,7 +22,7 @@ some-scene =
     record {
       config = blank;
       storing = false;
-      state = record { status = []; driver = []; device = []; object = []; content = [] };
+      state = record { status = []; driver = []; device = []; object = []; content = []; lock = [] };
     }
 
 pub slack-set : (t : List ℕ) (j y : ℕ) → j < length t → getD t j 0 < y → y ≤ 2 ^ 64 → slack (set t j y) < slack t

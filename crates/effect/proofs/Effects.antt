@@ -11,9 +11,28 @@ use borrow.Author.Tests.{le-leb, lt-leb, leb-true}
 use Rattle.model.specs.Base.{below}
 use Rattle.model.specs.Config.{from1to}
 use Rattle.model.specs.State.{mostPartition, areaLength, view, layout}
-use Rattle.model.specs.Operation.{mostCode, greenCode, familyOf, actorOf, objectAt, secondAt, formAt}
+use Rattle.model.specs.Operation.{
+  mostCode,
+  greenCode,
+  lockCode,
+  unlockCode,
+  familyOf,
+  actorOf,
+  objectAt,
+  secondAt,
+  formAt,
+}
 use Rattle.model.specs.declared.Family.{Family}
-use Rattle.model.specs.declared.Family.the-variants.{Write, Copy, Create, Destroy, Activate, Deactivate}
+use Rattle.model.specs.declared.Family.the-variants.{
+  Write,
+  Copy,
+  Create,
+  Destroy,
+  Activate,
+  Deactivate,
+  Lock,
+  Unlock,
+}
 use Rattle.model.specs.declared.Actor.{Actor}
 use Rattle.model.specs.declared.Actor.the-variants.{Driver, Device, External}
 use Rattle.model.specs.Effect.{apply, answerBytes, answered}
@@ -48,8 +67,8 @@ q11-small config op a v h i l e =
 past : (k n : ℕ) → k ≤ n → (n ≡ k → ⊥) → suc k ≤ n
 past k n h x = omega arith
 
-meet : (n : ℕ) → 12 ≤ n → (n ≡ greenCode → ⊥) → n ≤ mostCode → n ≡ 12
-meet n h g k = omega arith
+meet : (n : ℕ) → 12 ≤ n → (n ≡ greenCode → ⊥) → (n ≡ lockCode → ⊥) → (n ≡ unlockCode → ⊥) → n ≤ mostCode → n ≡ 12
+meet n h g l u k = omega arith
 
 low : (n : ℕ) → n < 1 → 1 ≤ n → ⊥
 low n h k = omega arith
@@ -103,18 +122,27 @@ module _ (room : ℕ) (op : Operation) (config : Config) (s t d : List ℕ) wher
   pub did-deactivate-device : op .code ≡ 11 → t ≡ layout (apply config op Deactivate Device (view room s)) → Left d
   did-deactivate-device e f = join d Deactivate Device (ap familyOf e) (ap actorOf e) f refl
 
+  pub did-lock : op .code ≡ lockCode → ((config : Config) → t ≡ layout (apply config op Lock Device (view room s)))
+      → Left d
+  did-lock e f = join d Lock Device (ap familyOf e) (ap actorOf e) (f config) refl
+
+  pub did-unlock : op .code ≡ unlockCode
+      → ((config : Config) → t ≡ layout (apply config op Unlock Device (view room s))) → Left d
+  did-unlock e f = join d Unlock Device (ap familyOf e) (ap actorOf e) (f config) refl
+
   -- the last arm: no other code is left
   pub did-deactivate-external : (op .code < 1) ⊎ (5 ≤ op .code) → 1 ≤ op .code → op .code ≤ mostCode
       → ((op .code ≡ 5) ⊎ (op .code ≡ greenCode) → ⊥) → (op .code ≡ 6 → ⊥) → (op .code ≡ 7 → ⊥)
       → (op .code ≡ 8 → ⊥) → (op .code ≡ 9 → ⊥) → (op .code ≡ 10 → ⊥) → (op .code ≡ 11 → ⊥)
+      → (op .code ≡ lockCode → ⊥) → (op .code ≡ unlockCode → ⊥)
       → t ≡ layout (apply config op Deactivate External (view room s)) → Left d
-  did-deactivate-external (inl z) l h a b c e g i j f = absurd (low (op .code) z l)
-  did-deactivate-external (inr z) l h a b c e g i j f =
+  did-deactivate-external (inl z) l h a b c e g i j m n f = absurd (low (op .code) z l)
+  did-deactivate-external (inr z) l h a b c e g i j m n f =
       let k : op .code ≡ 12 = meet (op .code)
       (past 11 (op .code) (past 10 (op .code)
       (past 9 (op .code) (past 8 (op .code)
       (past 7 (op .code) (past 6 (op .code) (past 5 (op .code) z (λ q. a (inl q))) b) c) e) g) i) j)
-      (λ q. a (inr q)) h in
+      (λ q. a (inr q)) m n h in
       join d Deactivate External (ap familyOf k) (ap actorOf k) f refl
 
 pub family-write : (n : ℕ) → n < 3 → familyOf n ≡ Write

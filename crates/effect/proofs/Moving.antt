@@ -16,7 +16,7 @@ use Rattle.model.specs.Config.{owns}
 use Rattle.model.specs.State as Columns
 use Rattle.model.specs.State.{State, cleared, areaLength, view, layout}
 use Rattle.model.specs.declared.Family.{Family}
-use Rattle.model.specs.declared.Family.the-variants.{Create, Destroy, Activate, Deactivate}
+use Rattle.model.specs.declared.Family.the-variants.{Create, Destroy, Activate, Deactivate, Lock, Unlock}
 use Rattle.model.specs.declared.Actor.{Actor}
 use Rattle.model.specs.declared.Actor.the-variants.{Driver, Device, External}
 use Rattle.model.specs.Effect.{createdStatus, apply}
@@ -25,7 +25,7 @@ use Rattle.model.specs.declared.Operation.{Operation}
 use Rattle.model.proofs.Lists.{partly, partly-get, partly-more}
 use Rattle.model.proofs.StateLaws.{Shape, view-layout}
 use Rattle.model.proofs.StateBytes.{layout-view}
-use Rattle.state.specs.Change.{withStatus, withDriver, withDevice, withObject, withContent, objectsLent}
+use Rattle.state.specs.Change.{withStatus, withDriver, withDevice, withObject, withContent, withLock, objectsLent}
 use Rattle.effect.specs.Moves.{movedAt, clearable, ownedBy, listed, moved}
 use Rattle.state.specs.Bytes.{Lesser}
 use Rattle.state.proofs.Idle.{idle-rest, lesser-end}
@@ -299,6 +299,16 @@ module _ (room : ℕ) (op : Operation) (s t : List ℕ) where
       → t ≡ layout (apply config op Destroy a (view room s))
   unfolding apply withStatus
   destroyed e config a = e
+
+  pub locked : t ≡ layout (withLock (view room s) (op .subject) 1) → (config : Config)
+      → t ≡ layout (apply config op Lock Device (view room s))
+  unfolding apply withLock
+  locked e config = e
+
+  pub unlocked : t ≡ layout (withLock (view room s) (op .subject) 0) → (config : Config)
+      → t ≡ layout (apply config op Unlock Device (view room s))
+  unfolding apply withLock
+  unlocked e config = e
 
   module _ (config : Config) where
     -- the objects that the operation's driver or device owns

@@ -17,6 +17,8 @@ use crate::moves::deactivate_device;
 use crate::moves::deactivate_driver;
 use crate::moves::deactivate_external;
 use crate::moves::destroy_partition;
+use crate::moves::lock_device;
+use crate::moves::unlock_device;
 use crate::transfers::copy_contents;
 use crate::transfers::write_items;
 use model::CONTENT_BYTES;
@@ -46,6 +48,8 @@ pub fn carry_out(area: &mut [u8], room: usize, config: Config, op: Operation, an
         9 => activate_external(area, room, config, op),
         10 => deactivate_driver(area, room, config, op),
         11 => deactivate_device(area, room, config, op),
+        14 => lock_device(area, room, op),
+        15 => unlock_device(area, room, op),
         _ => deactivate_external(area, room, config, op),
     }
 }

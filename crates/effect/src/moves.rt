@@ -1,4 +1,5 @@
-// Partitions created and destroyed; drivers, devices and objects put into one and taken out of it.
+// Partitions created and destroyed; drivers, devices and objects put into one and taken out of it; devices locked and
+// unlocked.
 ghost use mathlib.Core.Path.{_≡_};
 ghost use Prim.Native.Nat.{_<_};
 ghost use mathlib.Core.Bool.{cond};
@@ -7,7 +8,7 @@ ghost use lib.Dec.{eqb};
 ghost use Rattle.model.specs.State.{areaLength, plainStatus, greenStatus, view, layout};
 ghost use Rattle.model.specs.Operation.{greenCode};
 ghost use Rattle.model.specs.Effect.{apply};
-ghost use Rattle.model.specs.declared.Family.the-variants.{Create, Destroy, Activate, Deactivate};
+ghost use Rattle.model.specs.declared.Family.the-variants.{Create, Destroy, Activate, Deactivate, Lock, Unlock};
 ghost use Rattle.model.specs.declared.Actor.{Actor};
 ghost use Rattle.model.specs.declared.Actor.the-variants.{Driver, Device, External};
 ghost use Rattle.model.specs.declared.Config.{Config};
@@ -24,10 +25,13 @@ use operation::columns::number_of;
 use state::DESTROYED;
 use state::EXISTING;
 use state::GREEN;
+use state::LOCKED;
+use state::UNLOCKED;
 use state::bytes::lesser;
 use state::change::clear;
 use state::change::set_device;
 use state::change::set_driver;
+use state::change::set_lock;
 use state::change::set_object;
 use state::change::set_status;
 
@@ -255,4 +259,24 @@ pub fn deactivate_external(area: &mut [u8], room: usize, config: Config, op: Ope
         0,
         false,
     );
+}
+
+// Code 14: the device is locked.
+pub fn lock_device(area: &mut [u8], room: usize, op: Operation)
+    requires { ⌜ length (now area) ≡ areaLength room ⌝ }
+    ensures { λ _.
+        ⌜ ((config : Config) → now (area .exit)
+        ≡ layout (apply config op Lock Device (view room (now (area .entry))))) ⌝ }
+{
+    set_lock(area, room, op.subject, LOCKED);
+}
+
+// Code 15: the device is unlocked.
+pub fn unlock_device(area: &mut [u8], room: usize, op: Operation)
+    requires { ⌜ length (now area) ≡ areaLength room ⌝ }
+    ensures { λ _.
+        ⌜ ((config : Config) → now (area .exit)
+        ≡ layout (apply config op Unlock Device (view room (now (area .entry))))) ⌝ }
+{
+    set_lock(area, room, op.subject, UNLOCKED);
 }

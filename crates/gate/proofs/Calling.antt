@@ -1,4 +1,4 @@
--- A call by its ways out: the file is refused, a question of 7 to 22 is answered with no, or the operation is carried
+-- A call by its ways out: the file is refused, a question of 7 to 23 is answered with no, or the operation is carried
 -- out. Assumes nothing.
 use Prim.Native.Nat.{ℕ, zero, suc, _≤_, _<_}
 use mathlib.Core.Path.{_≡_, refl, sym, ap, _∙_}
@@ -12,7 +12,7 @@ use Rattle.model.specs.ConfigFile.{load}
 use Rattle.model.specs.State.{State, records, areaLength, view, layout, wellFormed}
 use Rattle.model.specs.Operation.{familyOf, actorOf, readOperation}
 use Rattle.model.specs.Effect.{answerBytes, answered}
-use Rattle.model.specs.Questions.{q11, q12, q13, q14, q15, q16, q17, q18, q19, q20, q21, q22, ask}
+use Rattle.model.specs.Questions.{q11, q12, q13, q14, q15, q16, q17, q18, q19, q20, q21, q22, q23, ask}
 use Rattle.model.specs.Gate.{orElse, applied, judged, verdict, outcome, operate}
 use Rattle.model.specs.Programs.{Operated}
 use Rattle.model.specs.declared.Family.{Family}
@@ -53,7 +53,7 @@ module _ (file area bytes answer : List ℕ) {l : Loaded} (e : l ≡ load file) 
   unfolding operate carried
   file-accepted z k h = rw (← e, z, ← k) (h .0, h .1 .0, h .1 .1)
 
--- questions 7 to 22
+-- questions 7 to 23
 module _ (config : Config) (room : ℕ) (area bytes answer : List ℕ) where
   refused : {n : ℕ} → (n ≡ 0 → ⊥) → verdict room config (readOperation bytes) area answer ≡ n
       → Carried room config area bytes answer n area answer
@@ -110,7 +110,7 @@ neither true y z h = absurd (true≢false h)
 neither false true z h = absurd (true≢false h)
 neither false false z h = (refl, refl, h)
 
--- questions 11 to 22
+-- questions 11 to 23
 module _ (config : Config) (b : State) (op : Operation) {q : ℕ}
     (e : q ≡ firstNo config b op (familyOf (op .code)) (actorOf (op .code)) 0) where
   rest : Family → Actor → ℕ
@@ -153,7 +153,8 @@ module _ (config : Config) (b : State) (op : Operation) {q : ℕ}
         let h₄ = asked 13 (q14 b op f a) _ (h₃ .1) in
         let h₅ = asked 14 (q15 b op f) _ (h₄ .1) in
         let h₆ = asked 15 (q16 b op f a) _ (h₅ .1) in
-        asked 16 (q17 b op f a) _ (h₆ .1) .0
+        let h₇ = asked 22 (q23 b op f a) _ (h₆ .1) in
+        asked 16 (q17 b op f a) _ (h₇ .1) .0
 
     pub asked-of : Complete op → Asked config op f a
     unfolding firstNo namesNo placesNo

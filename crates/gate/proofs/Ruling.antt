@@ -6,7 +6,16 @@ use borrow.Author.Tests.{not-true, not-false}
 use Rattle.model.specs.State.{State, green}
 use Rattle.model.specs.Questions.{zoneOf, quietActor, q22}
 use Rattle.model.specs.declared.Family.{Family}
-use Rattle.model.specs.declared.Family.the-variants.{Write, Copy, Create, Destroy, Activate, Deactivate}
+use Rattle.model.specs.declared.Family.the-variants.{
+  Write,
+  Copy,
+  Create,
+  Destroy,
+  Activate,
+  Deactivate,
+  Lock,
+  Unlock,
+}
 use Rattle.model.specs.declared.Actor.{Actor}
 use Rattle.model.specs.declared.Actor.the-variants.{Driver, Device, External}
 use Rattle.model.specs.declared.Config.{Config}
@@ -52,3 +61,5 @@ unruled config b op Activate Driver h = or-true (not (green b (op .partition)))
 unruled config b op Activate Device h = or-yes (green b (op .partition)) _ h
 unruled config b op Activate External h = or-true (not (green b (op .partition)))
 unruled config b op Deactivate a h = refl
+unruled config b op Lock a h = refl
+unruled config b op Unlock a h = refl

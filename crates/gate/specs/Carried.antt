@@ -1,4 +1,4 @@
--- Questions 7 to 22 of a call whose configuration was accepted, on an area with `room` object records, and its effect.
+-- Questions 7 to 23 of a call whose configuration was accepted, on an area with `room` object records, and its effect.
 use Prim.Native.Nat.{ℕ}
 use mathlib.Core.List.{List}
 use Rattle.model.specs.Operation.{readOperation}

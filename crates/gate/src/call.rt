@@ -1,4 +1,4 @@
-// One operation call whose configuration was accepted: questions 7 to 22, and then the effect. `room` is how many
+// One operation call whose configuration was accepted: questions 7 to 23, and then the effect. `room` is how many
 // object records the state area has.
 ghost use mathlib.Core.Path.{_≡_};
 ghost use Prim.Native.Nat.{_≤_};
@@ -54,7 +54,7 @@ fn leaving_number(yes: bool) -> u8
     if yes { ACCEPTED } else { 20 }
 }
 
-// The number of the first of the questions 11 to 22 that is answered with no, or 0. 22 comes before 19 and 20, which
+// The number of the first of the questions 11 to 23 that is answered with no, or 0. 22 comes before 19 and 20, which
 // are not put where it says no. What 20 and 22 are not about is kept from them: a
 // call would copy the configuration.
 fn judge_all(config: Config, area: &[u8], room: usize, op: Operation) -> u8

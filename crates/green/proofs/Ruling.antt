@@ -16,7 +16,16 @@ use Rattle.model.specs.State.{State, green, driverIn, deviceIn, objectIn, held}
 use Rattle.model.specs.Operation.{objectAt, secondAt}
 use Rattle.model.specs.Questions.{zoneOf, quietEntry, ringless, greenValue, greenItem, quietActor, greenItems, q22}
 use Rattle.model.specs.declared.Family.{Family}
-use Rattle.model.specs.declared.Family.the-variants.{Write, Copy, Create, Destroy, Activate, Deactivate}
+use Rattle.model.specs.declared.Family.the-variants.{
+  Write,
+  Copy,
+  Create,
+  Destroy,
+  Activate,
+  Deactivate,
+  Lock,
+  Unlock,
+}
 use Rattle.model.specs.declared.Actor.{Actor}
 use Rattle.model.specs.declared.Actor.the-variants.{Driver, Device, External}
 use Rattle.model.specs.declared.Config.{Config}
@@ -120,6 +129,14 @@ module _ (kind count table : List ℕ) (b : State) (p o v : ℕ) {f : Family} wh
   unfolding itemBy
   item-deactivate e = rw e
 
+  pub item-lock : f ≡ Lock → true ≡ itemBy kind count table b f p o v
+  unfolding itemBy
+  item-lock e = rw e
+
+  pub item-unlock : f ≡ Unlock → true ≡ itemBy kind count table b f p o v
+  unfolding itemBy
+  item-unlock e = rw e
+
 -- what a loop reads of item i
 pub item-at : (kind count table : List ℕ) (b : State) (op : Operation) (f : Family) (p i : ℕ) {o v : ℕ} {r : Bool}
     → r ≡ itemBy kind count table b f p o v → o ≡ objectAt op i → v ≡ secondAt op i
@@ -153,6 +170,8 @@ module _ (m : Config) (kind hardcoded count table : List ℕ) (b : State) where
   item-same op Destroy p i = refl
   item-same op Activate p i = refl
   item-same op Deactivate p i = refl
+  item-same op Lock p i = refl
+  item-same op Unlock p i = refl
 
   items-same : (op : Operation) (f : Family) (p : ℕ)
       → allBelow (op .count) (itemIn kind count table b op f p) ≡ below (op .count) (greenItem config b op f p)
@@ -245,3 +264,11 @@ module _ (m : Config) (kind hardcoded count table : List ℕ) (b : State) where
     pub rule-deactivate : f ≡ Deactivate → true ≡ q22 config b op f a
     unfolding q22
     rule-deactivate e = rw e
+
+    pub rule-lock : f ≡ Lock → true ≡ q22 config b op f a
+    unfolding q22
+    rule-lock e = rw e
+
+    pub rule-unlock : f ≡ Unlock → true ≡ q22 config b op f a
+    unfolding q22
+    rule-unlock e = rw e

@@ -10,7 +10,16 @@ use Rattle.model.specs.Config.{Entry, writes}
 use Rattle.model.specs.State.{State, objectIn, held}
 use Rattle.model.specs.Operation.{objectAt, secondAt}
 use Rattle.model.specs.declared.Family.{Family}
-use Rattle.model.specs.declared.Family.the-variants.{Write, Copy, Create, Destroy, Activate, Deactivate}
+use Rattle.model.specs.declared.Family.the-variants.{
+  Write,
+  Copy,
+  Create,
+  Destroy,
+  Activate,
+  Deactivate,
+  Lock,
+  Unlock,
+}
 use Rattle.model.specs.declared.Actor.{Actor}
 use Rattle.model.specs.declared.Actor.the-variants.{Driver, Device, External}
 use Rattle.model.specs.declared.Config.{Config}
@@ -39,6 +48,8 @@ itemBy kind count entries b Create p o v = true
 itemBy kind count entries b Destroy p o v = true
 itemBy kind count entries b Activate p o v = true
 itemBy kind count entries b Deactivate p o v = true
+itemBy kind count entries b Lock p o v = true
+itemBy kind count entries b Unlock p o v = true
 
 -- item i
 unfoldable pub itemIn : List ℕ → List ℕ → List ℕ → State → Operation → Family → ℕ → ℕ → Bool

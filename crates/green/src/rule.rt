@@ -187,6 +187,8 @@ fn item_passes<'a>(
         Family::Destroy => true,
         Family::Activate => true,
         Family::Deactivate => true,
+        Family::Lock => true,
+        Family::Unlock => true,
     }
 }
 
@@ -302,5 +304,7 @@ pub fn keeps_rule<'a>(
         Family::Destroy => true,
         Family::Activate => enters_keeping(kind, hardcoded, count, entries, area, room, op, a),
         Family::Deactivate => true,
+        Family::Lock => true,
+        Family::Unlock => true,
     }
 }

@@ -102,7 +102,7 @@ module _ (file area : List ℕ) where
         λ y. n .1 (f .1 (file-yes file .0 (y .0), y .1), y .2),
       )
 
-  -- questions 10 to 22 of an operation's bytes
+  -- questions 10 to 23 of an operation's bytes
   abbrev later : List ℕ → ℕ
   later bytes = orElse ((readOperation bytes) .0) (judged config ((readOperation bytes) .1) state)
 

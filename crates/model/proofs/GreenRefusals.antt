@@ -14,7 +14,16 @@ use Rattle.model.specs.Effect.{concerned}
 use Rattle.model.specs.Questions.{isKind, letsGo, quietEntry, greenEntry, greenValue, greenItem}
 use Rattle.model.specs.Demand2.{StoresValue, WritesDescriptor, BreaksRule}
 use Rattle.model.specs.declared.Family.{Family}
-use Rattle.model.specs.declared.Family.the-variants.{Write, Copy, Create, Destroy, Activate, Deactivate}
+use Rattle.model.specs.declared.Family.the-variants.{
+  Write,
+  Copy,
+  Create,
+  Destroy,
+  Activate,
+  Deactivate,
+  Lock,
+  Unlock,
+}
 use Rattle.model.specs.declared.Actor.{Actor}
 use Rattle.model.specs.declared.Config.{Config}
 use Rattle.model.specs.declared.Operation.{Operation}
@@ -138,6 +147,8 @@ module _ (config : Config) where
       item-no Destroy i h = absurd (true≢false h)
       item-no Activate i h = absurd (true≢false h)
       item-no Deactivate i h = absurd (true≢false h)
+      item-no Lock i h = absurd (true≢false h)
+      item-no Unlock i h = absurd (true≢false h)
 
       item-breaks : (f : Family) (i : ℕ) → ItemBreaks f i → greenItem config b op f p i ≡ false
       item-breaks Write i (v, e, s, m, k) =
@@ -160,6 +171,8 @@ module _ (config : Config) where
       item-breaks Destroy i (v, e, s, m, k) = absurd s
       item-breaks Activate i (v, e, s, m, k) = absurd s
       item-breaks Deactivate i (v, e, s, m, k) = absurd s
+      item-breaks Lock i (v, e, s, m, k) = absurd s
+      item-breaks Unlock i (v, e, s, m, k) = absurd s
 
       -- question 22 says no of the items exactly if one of them breaks the rule
       pub items-no : (f : Family) → (below (op .count) (greenItem config b op f p) ≡ false)

@@ -45,10 +45,13 @@ pub mod FormedStores
 pub mod FormedStatus
 pub mod FormedMoves
 pub mod Reached
+pub mod Locks
+pub mod Older
 pub mod GreenPasses
 pub mod GreenRefusals
 pub mod Rings
 pub mod Demand2
+pub mod LockAnswers
 pub mod OperationRange
 pub mod Answers
 pub mod OfficeLaws

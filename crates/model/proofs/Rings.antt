@@ -15,12 +15,14 @@ use Rattle.model.specs.Operation.{
   number,
   familyOf,
   actorOf,
+  lockCode,
+  unlockCode,
   afterCode,
   ended,
   readOperation,
 }
 use Rattle.model.specs.Effect.{answerBytes, apply}
-use Rattle.model.specs.Questions.{q11, q12, q13, q14, q15, q16, q17, q18, q19, q20, q21, q22, ask, judge}
+use Rattle.model.specs.Questions.{q11, q12, q13, q14, q15, q16, q17, q18, q19, q20, q21, q22, q23, ask, judge}
 use Rattle.model.specs.Questions.{ringless}
 use Rattle.model.specs.Gate.{makeFresh, orElse, judged, operate}
 use Rattle.model.specs.Separation.{Call, answersOf, areaAfter, final}
@@ -28,7 +30,16 @@ use Rattle.model.specs.Demand2.{configIn, operationIn, Entering}
 use Rattle.model.specs.Rings.{Ringless, Never21, NoRings}
 use Rattle.model.specs.declared.Parse.{Parse}
 use Rattle.model.specs.declared.Family.{Family}
-use Rattle.model.specs.declared.Family.the-variants.{Write, Copy, Create, Destroy, Activate, Deactivate}
+use Rattle.model.specs.declared.Family.the-variants.{
+  Write,
+  Copy,
+  Create,
+  Destroy,
+  Activate,
+  Deactivate,
+  Lock,
+  Unlock,
+}
 use Rattle.model.specs.declared.Actor.{Actor}
 use Rattle.model.specs.declared.Actor.the-variants.{Driver, Device, External}
 use Rattle.model.specs.declared.Config.{Config}
@@ -80,34 +91,33 @@ brings Create = false
 brings Destroy = false
 brings Activate = true
 brings Deactivate = false
+brings Lock = false
+brings Unlock = false
 
 picked : (s t : Bool) → cond s Driver (cond t Device External) ≡ Device → t ≡ true
 picked true t h = absurd (false≢true (ap isDevice h))
 picked false true h = refl
 picked false false h = absurd (false≢true (ap isDevice h))
 
-one-of : (p q r s : Bool) → p || q || r || s ≡ true
-    → (p ≡ true) ⊎ ((q ≡ true) ⊎ ((r ≡ true) ⊎ (s ≡ true)))
-one-of true q r s h = inl refl
-one-of false true r s h = inr (inl refl)
-one-of false false true s h = inr (inr (inl refl))
-one-of false false false true h = inr (inr (inr refl))
-one-of false false false false h = absurd (false≢true h)
-
 code-eight : (n : ℕ) → familyOf n ≡ Activate → actorOf n ≡ Device → n ≡ 8
 code-eight n f a =
-    go (one-of (eqb n 2) (eqb n 4) (eqb n 8) (eqb n 11)
-    (picked (eqb n 1 || eqb n 3 || eqb n 7 || eqb n 10) (eqb n 2 || eqb n 4 || eqb n 8 || eqb n 11) a))
+    go (eqb n 2) (eqb n 4) (eqb n 8) (eqb n 11) (eqb n lockCode) (eqb n unlockCode) refl refl refl refl refl refl
+    (picked (eqb n 1 || eqb n 3 || eqb n 7 || eqb n 10)
+    (eqb n 2 || eqb n 4 || eqb n 8 || eqb n 11 || eqb n lockCode || eqb n unlockCode) a)
   where
     other : (k : ℕ) → brings (familyOf k) ≡ false → eqb n k ≡ true → n ≡ 8
     other k h e =
         absurd (false≢true (sym h ∙ (ap (λ (m : ℕ). brings (familyOf m)) (sym (eqb-true n k e)) ∙ ap brings f)))
 
-    go : (eqb n 2 ≡ true) ⊎ ((eqb n 4 ≡ true) ⊎ ((eqb n 8 ≡ true) ⊎ (eqb n 11 ≡ true))) → n ≡ 8
-    go (inl e) = other 2 refl e
-    go (inr (inl e)) = other 4 refl e
-    go (inr (inr (inl e))) = eqb-true n 8 e
-    go (inr (inr (inr e))) = other 11 refl e
+    go : (p q r s t u : Bool) → eqb n 2 ≡ p → eqb n 4 ≡ q → eqb n 8 ≡ r → eqb n 11 ≡ s → eqb n lockCode ≡ t
+        → eqb n unlockCode ≡ u → p || q || r || s || t || u ≡ true → n ≡ 8
+    go true q r s t u e₂ e₄ e₈ e₁₁ e₁₄ e₁₅ h = other 2 refl e₂
+    go false true r s t u e₂ e₄ e₈ e₁₁ e₁₄ e₁₅ h = other 4 refl e₄
+    go false false true s t u e₂ e₄ e₈ e₁₁ e₁₄ e₁₅ h = eqb-true n 8 e₈
+    go false false false true t u e₂ e₄ e₈ e₁₁ e₁₄ e₁₅ h = other 11 refl e₁₁
+    go false false false false true u e₂ e₄ e₈ e₁₁ e₁₄ e₁₅ h = other lockCode refl e₁₄
+    go false false false false false true e₂ e₄ e₈ e₁₁ e₁₄ e₁₅ h = other unlockCode refl e₁₅
+    go false false false false false false e₂ e₄ e₈ e₁₁ e₁₄ e₁₅ h = absurd (false≢true h)
 
 module _ (config : Config) (b : State) (op : Operation) where
   -- an operation that is answered 21 was answered yes by 11 to 18, and no by 21
@@ -121,7 +131,8 @@ module _ (config : Config) (b : State) (op : Operation) where
       let h₄ = asked-past 14 21 (q14 b op f a) _ (λ z. omega arith) (h₃ .1) in
       let h₅ = asked-past 15 21 (q15 b op f) _ (λ z. omega arith) (h₄ .1) in
       let h₆ = asked-past 16 21 (q16 b op f a) _ (λ z. omega arith) (h₅ .1) in
-      let h₇ = asked-past 17 21 (q17 b op f a) _ (λ z. omega arith) (h₆ .1) in
+      let h₂₃ = asked-past 23 21 (q23 b op f a) _ (λ z. omega arith) (h₆ .1) in
+      let h₇ = asked-past 17 21 (q17 b op f a) _ (λ z. omega arith) (h₂₃ .1) in
       let h₈ = asked-past 18 21 (q18 config b op f a) _ (λ z. omega arith) (h₇ .1) in
       let h₉ = asked-past 19 21 (q19 config b op f a) _ (λ z. omega arith) (h₈ .1) in
       let h₀ = asked-past 20 21 (q20 config b op f a) _ (λ z. omega arith) (h₉ .1) in
@@ -133,6 +144,7 @@ module _ (config : Config) (b : State) (op : Operation) where
           p14 = h₄ .0;
           p15 = h₅ .0;
           p16 = h₆ .0;
+          p23 = h₂₃ .0;
           p17 = h₇ .0;
           p18 = h₈ .0;
         },
@@ -150,6 +162,8 @@ module _ (config : Config) (b : State) (op : Operation) where
   device-enters Activate Device h = (refl, refl)
   device-enters Activate External h = absurd (true≢false h)
   device-enters Deactivate a h = absurd (true≢false h)
+  device-enters Lock a h = absurd (true≢false h)
+  device-enters Unlock a h = absurd (true≢false h)
 
   module _ (sound : Sound config) (kept : Kept config b) (formed : FormedBy config b) where
     -- what writes no kind 1 object adds no entry that crosses

@@ -14,6 +14,7 @@ use Rattle.model.specs.State.{
   State,
   driverIn,
   objectIn,
+  lockOf,
   held,
   green,
   records,
@@ -22,13 +23,22 @@ use Rattle.model.specs.State.{
   wellFormed,
 }
 use Rattle.model.specs.Closure.{active, Reads, crosses}
-use Rattle.model.specs.Operation.{familyOf, actorOf, objectAt, secondAt, readOperation}
+use Rattle.model.specs.Operation.{familyOf, actorOf, lockCode, unlockCode, objectAt, secondAt, readOperation}
 use Rattle.model.specs.Effect.{answerBytes, concerned}
-use Rattle.model.specs.Questions.{q11, q12, q13, q14, q15, q16, q17, q18, q19, q20, q21, q22}
+use Rattle.model.specs.Questions.{q11, q12, q13, q14, q15, q16, q17, q18, q19, q20, q21, q22, q23}
 use Rattle.model.specs.Gate.{applied, operate}
 use Rattle.model.specs.declared.Config.{Config}
 use Rattle.model.specs.declared.Family.{Family}
-use Rattle.model.specs.declared.Family.the-variants.{Write, Copy, Create, Destroy, Activate, Deactivate}
+use Rattle.model.specs.declared.Family.the-variants.{
+  Write,
+  Copy,
+  Create,
+  Destroy,
+  Activate,
+  Deactivate,
+  Lock,
+  Unlock,
+}
 use Rattle.model.specs.declared.Actor.{Actor}
 use Rattle.model.specs.declared.Operation.{Operation}
 
@@ -48,23 +58,28 @@ actorIn bytes = actorOf (operationIn bytes .code)
 abbrev pub stateIn : List ℕ → List ℕ → State
 stateIn file area = view (records (configIn file)) area
 
--- document 01, 'The questions': the file meets 1 to 6, and each of 7 to 18 is a yes
-pub record Upto18 (file area bytes answer : List ℕ) : Type 0 where
+-- document 01, 'The questions': the file meets 1 to 6, and each of 7 to 10 is a yes
+pub record Upto10 (file area bytes answer : List ℕ) : Type 0 where
   pub y1-6 : FileYes file
   pub y7 : length area ≡ areaLength (records (configIn file))
   pub y8 : answerBytes ≤ length answer
   pub y9 : wellFormed (records (configIn file)) (configIn file) (stateIn file area) ≡ true
   pub y10 : (readOperation bytes) .0 ≡ 0
+
+-- document 01, 'The questions', and document 02, N6: each of 11 to 18 is a yes too, and 23, which is asked after 16
+pub record Upto18 (file area bytes answer : List ℕ) : Type 0 where
+  pub y1-10 : Upto10 file area bytes answer
   pub y11 : q11 (configIn file) (operationIn bytes) (familyIn bytes) (actorIn bytes) ≡ true
   pub y12 : q12 (operationIn bytes) (familyIn bytes) ≡ true
   pub y13 : q13 (configIn file) (operationIn bytes) (familyIn bytes) ≡ true
   pub y14 : q14 (stateIn file area) (operationIn bytes) (familyIn bytes) (actorIn bytes) ≡ true
   pub y15 : q15 (stateIn file area) (operationIn bytes) (familyIn bytes) ≡ true
   pub y16 : q16 (stateIn file area) (operationIn bytes) (familyIn bytes) (actorIn bytes) ≡ true
+  pub y23 : q23 (stateIn file area) (operationIn bytes) (familyIn bytes) (actorIn bytes) ≡ true
   pub y17 : q17 (stateIn file area) (operationIn bytes) (familyIn bytes) (actorIn bytes) ≡ true
   pub y18 : q18 (configIn file) (stateIn file area) (operationIn bytes) (familyIn bytes) (actorIn bytes) ≡ true
 
--- document 01, 'The questions', and document 02, N4 and N5: each of the twenty-two is a yes
+-- document 01, 'The questions', and document 02, N4 to N6: each of the twenty-three is a yes
 pub record AllYes (file area bytes answer : List ℕ) : Type 0 where
   pub y1-18 : Upto18 file area bytes answer
   pub y19 : q19 (configIn file) (stateIn file area) (operationIn bytes) (familyIn bytes) (actorIn bytes) ≡ true
@@ -139,6 +154,8 @@ StoresValue config b op Create i v = ⊥
 StoresValue config b op Destroy i v = ⊥
 StoresValue config b op Activate i v = ⊥
 StoresValue config b op Deactivate i v = ⊥
+StoresValue config b op Lock i v = ⊥
+StoresValue config b op Unlock i v = ⊥
 
 -- document 02, N5, question 22: an entry writes an object of kind 1; and it breaks the rule of green zone p: what it
 -- names is elsewhere, is of kind 4, or is of kind 1 and written
@@ -190,6 +207,26 @@ Refusal21 =
     → ((operate file area bytes answer) .0 ≡ 21)
     ↔ SomeCrosses (configIn file) (applied (configIn file) (operationIn bytes) (stateIn file area))
 
+-- document 02, N6, codes 14 and 15: a device is locked, or unlocked
+abbrev pub Locking : Operation → Type 0
+Locking op = op .code ≡ lockCode
+
+abbrev pub Unlocking : Operation → Type 0
+Unlocking op = op .code ≡ unlockCode
+
+-- demand 2, question 23: with 1 to 11, 14 and 16 a yes, codes 8 and 14 are refused exactly if the device's lock is 1,
+-- and code 15 exactly if it is 0
+abbrev pub Refusal23 : Type 0
+Refusal23 =
+    (file area bytes answer : List ℕ) → Upto10 file area bytes answer
+    → q11 (configIn file) (operationIn bytes) (familyIn bytes) (actorIn bytes) ≡ true
+    → q14 (stateIn file area) (operationIn bytes) (familyIn bytes) (actorIn bytes) ≡ true
+    → q16 (stateIn file area) (operationIn bytes) (familyIn bytes) (actorIn bytes) ≡ true
+    → (Entering (operationIn bytes) ⊎ Locking (operationIn bytes)
+    → ((operate file area bytes answer) .0 ≡ 23) ↔ (lockOf (stateIn file area) (operationIn bytes .subject) ≡ 1))
+    × (Unlocking (operationIn bytes)
+    → ((operate file area bytes answer) .0 ≡ 23) ↔ (lockOf (stateIn file area) (operationIn bytes .subject) ≡ 0))
+
 -- demand 2 as one statement; what an accepted call leaves is `operate`'s own definition (Gate)
 pub record Demand2 : Type 0 where
   pub accepted : Acceptance
@@ -198,3 +235,4 @@ pub record Demand2 : Type 0 where
   pub refused-22 : Refusal22
   pub entering-22 : Entering22
   pub refused-21 : Refusal21
+  pub refused-23 : Refusal23

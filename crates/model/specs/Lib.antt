@@ -11,11 +11,14 @@ pub mod Questions
 pub mod Gate
 pub mod Trace
 pub mod Separation
+pub mod Locks
+pub mod Older
 pub mod Green
 pub mod Office
 pub mod Rewriting
 pub mod Programs
 pub mod Examples
+pub mod LockExamples
 pub mod NumberMeans
 pub mod FileQuestions
 pub mod Demand2

@@ -168,6 +168,8 @@ pub enum Family {
     Destroy,
     Activate,
     Deactivate,
+    Lock,
+    Unlock,
 }
 
 // To whom a code does it, or by whom (document 01: driver, card, external objects).

@@ -14,6 +14,8 @@ use Rattle.model.specs.Number.{mostNumber, mostBytes, lead, valueOf, shortest, 
 use Rattle.model.specs.Operation.{
   mostCode,
   greenCode,
+  lockCode,
+  unlockCode,
   mostItems,
   familyOf,
   actorOf,
@@ -45,7 +47,7 @@ use Rattle.model.specs.Operation.{
 use Rattle.model.specs.declared.Fault.{Fault}
 use Rattle.model.specs.declared.Fault.the-variants.{Cut, Form}
 use Rattle.model.specs.declared.Actor.the-variants.{Driver, Device, External}
-use Rattle.model.specs.declared.Family.the-variants.{Write, Copy, Create, Activate, Deactivate}
+use Rattle.model.specs.declared.Family.the-variants.{Write, Copy, Create, Activate, Deactivate, Lock, Unlock}
 use Rattle.model.specs.declared.Num.{Num}
 use Rattle.model.specs.declared.Num.the-variants.{Got, Bad}
 use Rattle.model.specs.declared.Operation.{Operation}
@@ -234,6 +236,18 @@ module _ (s : List ℕ) (code at : ℕ) where
   unfolding only
   deactivate-arm h k p = p ∙ arm deactivating 2 10 h (omega arith) (refl, (refl, tt))
 
+  pub deactivate-between : {r : Parse} → 9 ≤ code → code < 12 → (code ≡ 9 → ⊥) → r ≡ deactivating code s at
+      → r ≡ afterCode s code at
+  deactivate-between h k n p = deactivate-arm (omega arith) (omega arith) p
+
+  pub lock-arm : {r : Parse} → code ≡ lockCode → r ≡ deactivating code s at → r ≡ afterCode s code at
+  unfolding only
+  lock-arm h p = p ∙ arm deactivating 1 lockCode (omega arith) (omega arith) (refl, tt)
+
+  pub unlock-arm : {r : Parse} → code ≡ unlockCode → r ≡ deactivating code s at → r ≡ afterCode s code at
+  unfolding only
+  unlock-arm h p = p ∙ arm deactivating 1 unlockCode (omega arith) (omega arith) (refl, tt)
+
   pub zero-arm : {r : Parse} → code < 1 → r ≡ refused → r ≡ afterCode s code at
   unfolding afterCode only
   zero-arm h p = rw (p, lt-leb 1 code h)
@@ -241,6 +255,11 @@ module _ (s : List ℕ) (code at : ℕ) where
   pub other-arm : {r : Parse} → mostCode < code → r ≡ refused → r ≡ afterCode s code at
   unfolding afterCode only
   other-arm h p = rw (p, le-leb 1 code (omega arith), lt-leb code mostCode h)
+
+  -- behind the last range no code but those with an arm of their own is known
+  pub past-arm : {r : Parse} → 12 ≤ code → (code ≡ 12 → ⊥) → (code ≡ greenCode → ⊥) → (code ≡ lockCode → ⊥)
+      → (code ≡ unlockCode → ⊥) → r ≡ refused → r ≡ afterCode s code at
+  past-arm h k g l u p = other-arm (omega arith) p
 
 -- the whole operation: its code, what follows, and nothing left over
 abbrev pub AnswersAs : Parsed → List ℕ → Type 0
@@ -282,8 +301,18 @@ copy-family code h k = each-at (λ n. Copy ≡ familyOf n) 2 3 code h (omega ari
 pub activate-family : (code : ℕ) → 7 ≤ code → code ≤ 9 → Activate ≡ familyOf code
 activate-family code h k = each-at (λ n. Activate ≡ familyOf n) 3 7 code h (omega arith) (refl, (refl, (refl, tt)))
 
-pub deactivate-family : (code : ℕ) → 10 ≤ code → (code ≡ greenCode → ⊥) → Deactivate ≡ familyOf code
-deactivate-family code h g =
+pub activate-between : (code : ℕ) → 5 ≤ code → code < 10 → (code ≡ 5 → ⊥) → (code ≡ 6 → ⊥) → Activate ≡ familyOf code
+activate-between code h k a b = activate-family code (omega arith) (omega arith)
+
+pub lock-family : (code : ℕ) → code ≡ lockCode → Lock ≡ familyOf code
+lock-family code e = rw e
+
+pub unlock-family : (code : ℕ) → code ≡ unlockCode → Unlock ≡ familyOf code
+unlock-family code e = rw e
+
+pub deactivate-family : (code : ℕ) → 10 ≤ code → (code ≡ greenCode → ⊥) → (code ≡ lockCode → ⊥)
+    → (code ≡ unlockCode → ⊥) → Deactivate ≡ familyOf code
+deactivate-family code h g k u =
     rw (
       lt-leb code 2 (omega arith),
       lt-leb code 4 (omega arith),
@@ -291,6 +320,8 @@ deactivate-family code h g =
       ne-eqb code greenCode g,
       ne-eqb code 6 (λ e. omega arith),
       lt-leb code 9 (omega arith),
+      ne-eqb code lockCode k,
+      ne-eqb code unlockCode u,
     )
 
 pub driver-actor : (code : ℕ) → (code ≡ 1) ⊎ ((code ≡ 3) ⊎ ((code ≡ 7) ⊎ (code ≡ 10))) → Driver ≡ actorOf code
@@ -305,9 +336,16 @@ device-actor code (inr (inl e)) = rw e
 device-actor code (inr (inr (inl e))) = rw e
 device-actor code (inr (inr (inr e))) = rw e
 
+pub lock-actor : (code : ℕ) → code ≡ lockCode → Device ≡ actorOf code
+lock-actor code e = rw e
+
+pub unlock-actor : (code : ℕ) → code ≡ unlockCode → Device ≡ actorOf code
+unlock-actor code e = rw e
+
 pub external-actor : (code : ℕ) → ((code ≡ 1) ⊎ ((code ≡ 3) ⊎ ((code ≡ 7) ⊎ (code ≡ 10))) → ⊥)
-    → ((code ≡ 2) ⊎ ((code ≡ 4) ⊎ ((code ≡ 8) ⊎ (code ≡ 11))) → ⊥) → External ≡ actorOf code
-external-actor code p q =
+    → ((code ≡ 2) ⊎ ((code ≡ 4) ⊎ ((code ≡ 8) ⊎ (code ≡ 11))) → ⊥) → (code ≡ lockCode → ⊥)
+    → (code ≡ unlockCode → ⊥) → External ≡ actorOf code
+external-actor code p q l u =
     rw (
       ne-eqb code 1 (λ e. p (inl e)),
       ne-eqb code 3 (λ e. p (inr (inl e))),
@@ -319,4 +357,6 @@ external-actor code p q =
       ne-eqb code 4 (λ e. q (inr (inl e))),
       ne-eqb code 8 (λ e. q (inr (inr (inl e)))),
       ne-eqb code 11 (λ e. q (inr (inr (inr e)))),
+      ne-eqb code lockCode l,
+      ne-eqb code unlockCode u,
     ))

@@ -26,6 +26,8 @@ pub fn family_of(code: usize) -> Family
         5 | 13 => Family::Create,
         6 => Family::Destroy,
         7..=9 => Family::Activate,
+        14 => Family::Lock,
+        15 => Family::Unlock,
         _ => Family::Deactivate,
     }
 }
@@ -37,6 +39,8 @@ pub fn actor_of(code: usize) -> Actor
     match code {
         1 | 3 | 7 | 10 => Actor::Driver,
         2 | 4 | 8 | 11 => Actor::Device,
+        14 => Actor::Device,
+        15 => Actor::Device,
         _ => Actor::External,
     }
 }
@@ -97,7 +101,7 @@ fn read_activation(s: &[u8], code: usize, at: usize) -> Parse
     go_on(next, op)
 }
 
-// Codes 10 and 11, deactivation: driver or device.
+// Codes 10 and 11, deactivation: driver or device. Codes 14 and 15, locking and unlocking: device.
 fn read_deactivation(s: &[u8], code: usize, at: usize) -> Parse
     ensures { λ r. ⌜ r ≡ deactivating code (now (s .entry)) at ⌝ }
 {
@@ -121,6 +125,8 @@ pub(crate) fn arguments(s: &[u8], code: usize, at: usize) -> Parse
         9 | 12 => read_counted(s, Element::Object, code, at),
         10..=11 => read_deactivation(s, code, at),
         13 => read_partition(s, code, at),
+        14 => read_deactivation(s, code, at),
+        15 => read_deactivation(s, code, at),
         _ => stop(),
     }
 }

@@ -32,11 +32,21 @@ use Rattle.model.specs.Questions.{
   q20,
   q21,
   q22,
+  q23,
   ask,
   judge,
 }
 use Rattle.model.specs.declared.Family.{Family}
-use Rattle.model.specs.declared.Family.the-variants.{Write, Copy, Create, Destroy, Activate, Deactivate}
+use Rattle.model.specs.declared.Family.the-variants.{
+  Write,
+  Copy,
+  Create,
+  Destroy,
+  Activate,
+  Deactivate,
+  Lock,
+  Unlock,
+}
 use Rattle.model.specs.declared.Actor.{Actor}
 use Rattle.model.specs.declared.Actor.the-variants.{Driver, Device, External}
 use Rattle.model.specs.declared.Counts.{Counts}
@@ -130,6 +140,11 @@ as-wanted true false = refl
 as-wanted false true = refl
 as-wanted false false = refl
 
+-- a question that is put to devices alone
+pub either-true : (wanted : Bool) → true ≡ cond wanted true true
+either-true true = refl
+either-true false = refl
+
 -- what a loop reads of item i: object o, second number v, form
 module _ (objects seconds forms : List ℕ) (i : ℕ) {o v form : ℕ} where
   pub item-named : (counts : Counts) (f : Family) {b : Bool} → b ≡ named counts f o v form
@@ -176,6 +191,8 @@ items-same config op Create = refl
 items-same config op Destroy = refl
 items-same config op Activate = refl
 items-same config op Deactivate = refl
+items-same config op Lock = refl
+items-same config op Unlock = refl
 
 q11-same : (config : Config) (op : Operation) (f : Family) (a : Actor)
     → (actorNamed (config .counts) a (op .subject) && partitionNamed f a (op .partition)
@@ -192,6 +209,8 @@ q12-same op Create = refl
 q12-same op Destroy = refl
 q12-same op Activate = refl
 q12-same op Deactivate = refl
+q12-same op Lock = refl
+q12-same op Unlock = refl
 
 q13-same : (config : Config) (op : Operation) (f : Family)
     → allBelow (op .count) (itemFitting (config .objects .kind) (config .objects .class) f (op .objects) (op .seconds)
@@ -203,6 +222,8 @@ q13-same config op Create = refl
 q13-same config op Destroy = refl
 q13-same config op Activate = refl
 q13-same config op Deactivate = refl
+q13-same config op Lock = refl
+q13-same config op Unlock = refl
 
 -- the answers to these three put together
 pub names-asked : (config : Config) (op : Operation) (f : Family) (a : Actor) {x y z : Bool}
@@ -239,6 +260,8 @@ inside-same b op Create p = refl
 inside-same b op Destroy p = refl
 inside-same b op Activate p = refl
 inside-same b op Deactivate p = refl
+inside-same b op Lock p = refl
+inside-same b op Unlock p = refl
 
 module _ (b : State) (op : Operation) (f : Family) (a : Actor) {r : Bool} where
   pub q17-driver : a ≡ Driver → {p : ℕ} → p ≡ driverIn b (op .subject)
@@ -269,9 +292,10 @@ module _ (config : Config) (b : State) (op : Operation) (f : Family) (a : Actor)
       or-ask 13 (q14 b op f a) _ rest
       ∙ ap (ask 14 (q14 b op f a)) (or-ask 14 (q15 b op f) _ rest
       ∙ ap (ask 15 (q15 b op f)) (or-ask 15 (q16 b op f a) _ rest
-      ∙ ap (ask 16 (q16 b op f a)) (or-ask 16 (q17 b op f a) x rest)))
+      ∙ ap (ask 16 (q16 b op f a)) (or-ask 22 (q23 b op f a) _ rest
+      ∙ ap (ask 23 (q23 b op f a)) (or-ask 16 (q17 b op f a) x rest))))
 
--- `judge` of the code: 11 to 13 are asked first, then 14 to 17
+-- `judge` of the code: 11 to 13 are asked first, then 14 to 17 with 23
 or-stop : (q rest : ℕ) → (q ≡ 0 → ⊥) → q ≡ orElse q rest
 or-stop zero rest h = absurd (h refl)
 or-stop (suc q) rest h = refl
@@ -288,7 +312,7 @@ module _ (config : Config) (b : State) (op : Operation) {f g : Family} {a c : Ac
   pub places-first : q ≡ 0 → {r : ℕ} → r ≡ placesNo b op f a 0 → r ≡ firstNo config b op g c 0
   places-first h {r} p = p ∙ (ap (λ (n : ℕ). orElse n (placesNo b op f a 0)) (sym h) ∙ first-by)
 
--- joining the questions that follow: the model's `judge` is these seven and the rest
+-- joining the questions that follow: the model's `judge` is these eight and the rest
 module _ (config : Config) (b : State) (op : Operation) (f : Family) (a : Actor) where
   pub join : (rest : ℕ) → orElse (firstNo config b op f a 0) rest ≡ firstNo config b op f a rest
   unfolding firstNo

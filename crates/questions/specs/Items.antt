@@ -1,4 +1,4 @@
--- The parts of questions 11 to 17 by the numbers that they look at, so that a loop is lent columns and no
+-- The parts of questions 11 to 17 and 23 by the numbers that they look at, so that a loop is lent columns and no
 -- configuration. proofs/Laws has that these are the model's.
 use Prim.Native.Nat.{ℕ}
 use mathlib.Core.List.{List}
@@ -9,9 +9,33 @@ use Rattle.model.specs.Base.{below, all}
 use Rattle.model.specs.Config.{from1to}
 use Rattle.model.specs.State.{mostPartition, State, objectIn}
 use Rattle.model.specs.Operation.{objectAt, secondAt}
-use Rattle.model.specs.Questions.{namesPartition, isActive, inactive, q11, q12, q13, q14, q15, q16, q17, ask}
+use Rattle.model.specs.Questions.{
+  namesPartition,
+  isActive,
+  inactive,
+  unlockedActor,
+  lockedActor,
+  q11,
+  q12,
+  q13,
+  q14,
+  q15,
+  q16,
+  q17,
+  q23,
+  ask,
+}
 use Rattle.model.specs.declared.Family.{Family}
-use Rattle.model.specs.declared.Family.the-variants.{Write, Copy, Create, Destroy, Activate, Deactivate}
+use Rattle.model.specs.declared.Family.the-variants.{
+  Write,
+  Copy,
+  Create,
+  Destroy,
+  Activate,
+  Deactivate,
+  Lock,
+  Unlock,
+}
 use Rattle.model.specs.declared.Actor.{Actor}
 use Rattle.model.specs.declared.Actor.the-variants.{Driver, Device, External}
 use Rattle.model.specs.declared.Counts.{Counts}
@@ -48,6 +72,8 @@ named counts Create o v form = true
 named counts Destroy o v form = true
 named counts Activate o v form = from1to o (counts .objects)
 named counts Deactivate o v form = from1to o (counts .objects)
+named counts Lock o v form = true
+named counts Unlock o v form = true
 
 -- item i, by the columns of objects, second numbers and forms
 unfoldable pub itemNamed : Counts → Family → List ℕ → List ℕ → List ℕ → ℕ → Bool
@@ -61,6 +87,8 @@ changedIn objects seconds Create i = 0
 changedIn objects seconds Destroy i = 0
 changedIn objects seconds Activate i = getD objects i 0
 changedIn objects seconds Deactivate i = getD objects i 0
+changedIn objects seconds Lock i = 0
+changedIn objects seconds Unlock i = 0
 
 abbrev pub differs : ℕ → ℕ → Bool
 differs x y = eqb x 0 || not (eqb y x)
@@ -78,6 +106,8 @@ fits Create kind class v other form = true
 fits Destroy kind class v other form = true
 fits Activate kind class v other form = not (eqb kind 4) && eqb class 0
 fits Deactivate kind class v other form = not (eqb kind 4) && eqb class 0
+fits Lock kind class v other form = true
+fits Unlock kind class v other form = true
 
 -- item i, by the columns of kinds and classes, and by its own
 unfoldable pub itemFitting : List ℕ → List ℕ → Family → List ℕ → List ℕ → List ℕ → ℕ → Bool
@@ -94,6 +124,10 @@ itemActive b op false i = eqb (objectIn b (objectAt op i)) 0
 abbrev pub activity : State → Operation → Actor → Bool → Bool
 activity b op a wanted = cond wanted (isActive b op a) (inactive b op a)
 
+-- question 23: the device has a lock, or it has none
+abbrev pub lockage : State → Operation → Actor → Bool → Bool
+lockage b op a wanted = cond wanted (lockedActor b op a) (unlockedActor b op a)
+
 -- question 17, of an item: the partitions of its object and of its second number's
 abbrev pub inside : Family → ℕ → ℕ → ℕ → ℕ → Bool
 inside Write p mine v other = eqb mine p
@@ -102,6 +136,8 @@ inside Create p mine v other = true
 inside Destroy p mine v other = true
 inside Activate p mine v other = true
 inside Deactivate p mine v other = eqb mine p
+inside Lock p mine v other = true
+inside Unlock p mine v other = true
 
 unfoldable pub itemInside : State → Operation → Family → ℕ → ℕ → Bool
 itemInside b op f p i =
@@ -117,14 +153,15 @@ judgedBy m counts kind class =
       values = m .values;
     }
 
--- the number of the first of the questions 11 to 13, of 14 to 17, and of all these that is answered with no; else the
--- rest
+-- the number of the first of the questions 11 to 13, of 14 to 17 with 23 after 16, and of all these that is answered
+-- with no; else the rest
 unfoldable pub namesNo : Config → Operation → Family → Actor → ℕ → ℕ
 namesNo config op f a rest = ask 11 (q11 config op f a) (ask 12 (q12 op f) (ask 13 (q13 config op f) rest))
 
 unfoldable pub placesNo : State → Operation → Family → Actor → ℕ → ℕ
 placesNo b op f a rest =
-    ask 14 (q14 b op f a) (ask 15 (q15 b op f) (ask 16 (q16 b op f a) (ask 17 (q17 b op f a) rest)))
+    ask 14 (q14 b op f a) (ask 15 (q15 b op f) (ask 16 (q16 b op f a) (ask 23 (q23 b op f a)
+    (ask 17 (q17 b op f a) rest))))
 
 unfoldable pub firstNo : Config → State → Operation → Family → Actor → ℕ → ℕ
 firstNo config b op f a rest = namesNo config op f a (placesNo b op f a rest)

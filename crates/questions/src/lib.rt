@@ -1,5 +1,5 @@
-// Questions 11 to 17 of an operation, over a configuration and a state area. `room` is how many object records the
-// area has.
+// Questions 11 to 17 and 23 of an operation, over a configuration and a state area. `room` is how many object records
+// the area has.
 mod lookups;
 mod names;
 mod places;
@@ -13,8 +13,8 @@ ghost use Rattle.questions.specs.Items.{judgedBy, firstNo};
 use model::Counts;
 use model::Operation;
 
-// The number of the first of the questions 11 to 17 that is answered with no, or 0. Of a configuration they look at the
-// counts, kinds and classes.
+// The number of the first of the questions 11 to 17 and 23 that is answered with no, or 0. Of a configuration they look
+// at the counts, kinds and classes.
 pub fn judge<'a>(
     counts: Counts,
     kind: &'a [u8],

@@ -42,6 +42,8 @@ fn partition_named(f: Family, a: Actor, p: usize) -> bool
             Actor::Device => true,
             Actor::External => from_1_to(p, MOST_PARTITION),
         },
+        Family::Lock => true,
+        Family::Unlock => true,
     }
 }
 
@@ -57,6 +59,8 @@ fn item_named(counts: Counts, f: Family, o: usize, v: usize, form: usize) -> boo
         Family::Destroy => true,
         Family::Activate => object,
         Family::Deactivate => object,
+        Family::Lock => true,
+        Family::Unlock => true,
     }
 }
 
@@ -96,6 +100,8 @@ fn changed_at<'a>(objects: &'a [u32], seconds: &'a [u32], f: Family, i: usize) -
         Family::Destroy => 0,
         Family::Activate => number_of(objects, i),
         Family::Deactivate => number_of(objects, i),
+        Family::Lock => 0,
+        Family::Unlock => 0,
     }
 }
 
@@ -144,6 +150,8 @@ fn item_fits(f: Family, kind: u8, class: u8, v: usize, other: u8, form: usize) -
         Family::Destroy => true,
         Family::Activate => (kind != HARDCODED_KIND) & (class == EXTERNAL_CLASS),
         Family::Deactivate => (kind != HARDCODED_KIND) & (class == EXTERNAL_CLASS),
+        Family::Lock => true,
+        Family::Unlock => true,
     }
 }
 

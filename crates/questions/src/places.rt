@@ -1,11 +1,11 @@
-// Questions 14 to 17: partitions and who is in them, by a state area with `room` object records.
+// Questions 14 to 17 and 23: partitions, who is in them, and locks, by a state area with `room` object records.
 ghost use mathlib.Core.Path.{_≡_};
 ghost use lib.ListN.{length};
 ghost use Rattle.model.specs.State.{areaLength, view};
 ghost use Rattle.model.specs.Base.{nth};
-ghost use Rattle.model.specs.Questions.{q14, q15, q16, q17, nothingIn};
+ghost use Rattle.model.specs.Questions.{q14, q15, q16, q17, q23, nothingIn};
 ghost use Rattle.questions.specs.Items.{allBelow, columnOf, noneIs, itemActive, activity, inside, itemInside};
-ghost use Rattle.questions.specs.Items.{placesNo};
+ghost use Rattle.questions.specs.Items.{lockage, placesNo};
 use crate::lookups::ask;
 use model::Actor;
 use model::Family;
@@ -13,10 +13,12 @@ use model::Operation;
 use operation::columns::number_of;
 use state::DEVICE_BYTES;
 use state::DRIVER_BYTES;
+use state::UNLOCKED;
 use state::UNUSED;
 use state::look::device;
 use state::look::driver;
 use state::look::is_existing;
+use state::look::lock;
 use state::look::object;
 use state::look::status;
 
@@ -36,6 +38,8 @@ pub fn status_fits(area: &[u8], room: usize, op: Operation, f: Family, a: Actor)
             Actor::Device => true,
             Actor::External => is_existing(area, room, op.partition),
         },
+        Family::Lock => true,
+        Family::Unlock => true,
     }
 }
 
@@ -91,6 +95,8 @@ pub fn left_empty(area: &[u8], room: usize, op: Operation, f: Family) -> bool
         Family::Destroy => nothing_in(area, room, op.partition),
         Family::Activate => true,
         Family::Deactivate => true,
+        Family::Lock => true,
+        Family::Unlock => true,
     }
 }
 
@@ -125,7 +131,7 @@ fn is_active(area: &[u8], room: usize, op: Operation, a: Actor, wanted: bool) ->
     }
 }
 
-// 16: inactive before activation, active before anything else.
+// 16: inactive before activation, locking and unlocking, active before anything else.
 pub fn activity_fits(area: &[u8], room: usize, op: Operation, f: Family, a: Actor) -> bool
     requires { ⌜ length (now area) ≡ areaLength room ⌝ }
     ensures { λ r. ⌜ r ≡ q16 (view room (now (area .entry))) op f a ⌝ }
@@ -137,6 +143,37 @@ pub fn activity_fits(area: &[u8], room: usize, op: Operation, f: Family, a: Acto
         Family::Destroy => true,
         Family::Activate => is_active(area, room, op, a, false),
         Family::Deactivate => is_active(area, room, op, a, true),
+        Family::Lock => is_active(area, room, op, a, false),
+        Family::Unlock => is_active(area, room, op, a, false),
+    }
+}
+
+// The device has a lock, or has none, as wanted; drivers and objects are not locked.
+fn is_locked(area: &[u8], room: usize, op: Operation, a: Actor, wanted: bool) -> bool
+    requires { ⌜ length (now area) ≡ areaLength room ⌝ }
+    ensures { λ r. ⌜ r ≡ lockage (view room (now (area .entry))) op a wanted ⌝ }
+{
+    match a {
+        Actor::Driver => true,
+        Actor::Device => (lock(area, room, op.subject) != UNLOCKED) == wanted,
+        Actor::External => true,
+    }
+}
+
+// 23: a device that comes in or is to be locked has no lock, one that is to be unlocked has one.
+pub fn lock_fits(area: &[u8], room: usize, op: Operation, f: Family, a: Actor) -> bool
+    requires { ⌜ length (now area) ≡ areaLength room ⌝ }
+    ensures { λ r. ⌜ r ≡ q23 (view room (now (area .entry))) op f a ⌝ }
+{
+    match f {
+        Family::Write => true,
+        Family::Copy => true,
+        Family::Create => true,
+        Family::Destroy => true,
+        Family::Activate => is_locked(area, room, op, a, false),
+        Family::Deactivate => true,
+        Family::Lock => is_locked(area, room, op, a, false),
+        Family::Unlock => is_locked(area, room, op, a, true),
     }
 }
 
@@ -151,6 +188,8 @@ fn item_inside(f: Family, p: usize, mine: usize, v: usize, other: usize) -> bool
         Family::Destroy => true,
         Family::Activate => true,
         Family::Deactivate => mine == p,
+        Family::Lock => true,
+        Family::Unlock => true,
     }
 }
 
@@ -197,6 +236,11 @@ pub fn judge_places(area: &[u8], room: usize, op: Operation, f: Family, a: Actor
     let q14 = status_fits(area, room, op, f, a);
     let q15 = left_empty(area, room, op, f);
     let q16 = activity_fits(area, room, op, f, a);
+    let q23 = lock_fits(area, room, op, f, a);
     let q17 = placed(area, room, op, f, a);
-    ask(14, q14, ask(15, q15, ask(16, q16, ask(17, q17, 0))))
+    ask(
+        14,
+        q14,
+        ask(15, q15, ask(16, q16, ask(23, q23, ask(17, q17, 0)))),
+    )
 }

@@ -23,7 +23,16 @@ use Rattle.model.specs.Questions.{
 }
 use Rattle.model.specs.Gate.{applied}
 use Rattle.model.specs.declared.Family.{Family}
-use Rattle.model.specs.declared.Family.the-variants.{Write, Copy, Create, Destroy, Activate, Deactivate}
+use Rattle.model.specs.declared.Family.the-variants.{
+  Write,
+  Copy,
+  Create,
+  Destroy,
+  Activate,
+  Deactivate,
+  Lock,
+  Unlock,
+}
 use Rattle.model.specs.declared.Actor.{Actor}
 use Rattle.model.specs.declared.Actor.the-variants.{Driver, Device, External}
 use Rattle.model.specs.declared.Config.{Config}
@@ -104,6 +113,14 @@ module _ (config : Config) (b : State) (c : ℕ) {f : Family} (o v : ℕ) where
   unfolding transferOf
   item-deactivate e = rw e
 
+  pub item-lock : f ≡ Lock → true ≡ transferOf config b c f o v
+  unfolding transferOf
+  item-lock e = rw e
+
+  pub item-unlock : f ≡ Unlock → true ≡ transferOf config b c f o v
+  unfolding transferOf
+  item-unlock e = rw e
+
 -- what a loop reads of item i
 pub item-at : (config : Config) (b : State) (op : Operation) (f : Family) (i : ℕ) {o v : ℕ} {r : Bool}
     → r ≡ transferOf config b (op .subject) f o v → o ≡ objectAt op i → v ≡ secondAt op i
@@ -129,6 +146,8 @@ module _ (config : Config) (b : State) (op : Operation) where
   same Destroy i = refl
   same Activate i = refl
   same Deactivate i = refl
+  same Lock i = refl
+  same Unlock i = refl
 
   free : (f : Family) → stores f ≡ false → (i : ℕ) → transfer config b op f i ≡ true
   free Write h i = absurd (true≢false h)
@@ -137,6 +156,8 @@ module _ (config : Config) (b : State) (op : Operation) where
   free Destroy h i = refl
   free Activate h i = refl
   free Deactivate h i = refl
+  free Lock h i = refl
+  free Unlock h i = refl
 
   pub q18-other : (f : Family) (a : Actor) → byDevice a ≡ false → true ≡ q18 config b op f a
   unfolding q18
@@ -172,6 +193,8 @@ module _ (config : Config) (b : State) (op : Operation) where
   q19-device Destroy Device h = refl
   q19-device Activate Device h = refl
   q19-device Deactivate Device h = refl
+  q19-device Lock Device h = refl
+  q19-device Unlock Device h = refl
   q19-device f External h = absurd (false≢true h)
 
   pub q19-free : (f : Family) (a : Actor) → stores f ≡ false → true ≡ q19 config b op f a
@@ -182,6 +205,8 @@ module _ (config : Config) (b : State) (op : Operation) where
   q19-free Destroy a h = refl
   q19-free Activate a h = refl
   q19-free Deactivate a h = refl
+  q19-free Lock a h = refl
+  q19-free Unlock a h = refl
 
   pub q21-free : (f : Family) (a : Actor) → enters f a ≡ false → true ≡ q21 config b op f a
   unfolding q21
@@ -193,6 +218,8 @@ module _ (config : Config) (b : State) (op : Operation) where
   q21-free Activate Device h = absurd (true≢false h)
   q21-free Activate External h = refl
   q21-free Deactivate a h = refl
+  q21-free Lock a h = refl
+  q21-free Unlock a h = refl
 
   pub q22-free : (f : Family) (a : Actor) → stores f ≡ false → enters f a ≡ false → true ≡ q22 config b op f a
   unfolding q22
@@ -204,6 +231,8 @@ module _ (config : Config) (b : State) (op : Operation) where
   q22-free Activate Device h k = absurd (true≢false k)
   q22-free Activate External h k = or-true (not (green b (op .partition)))
   q22-free Deactivate a h k = refl
+  q22-free Lock a h k = refl
+  q22-free Unlock a h k = refl
 
   abbrev both : Family → Actor → Bool
   both f a = q19 config b op f a && q21 config b op f a
@@ -236,6 +265,8 @@ module _ (config : Config) (b : State) (op : Operation) where
   neither-put Activate Device h = absurd (true≢false h)
   neither-put Activate External h = refl
   neither-put Deactivate a h = refl
+  neither-put Lock a h = refl
+  neither-put Unlock a h = refl
 
   either-put : (f : Family) (a : Actor) → follows b op f a ≡ true → confined config (apply config op f a b) ≡ both f a
   unfolding q19 q21
@@ -257,6 +288,12 @@ module _ (config : Config) (b : State) (op : Operation) where
   either-put Deactivate Driver h = absurd (false≢true h)
   either-put Deactivate Device h = absurd (false≢true h)
   either-put Deactivate External h = absurd (false≢true h)
+  either-put Lock Driver h = absurd (false≢true h)
+  either-put Lock Device h = absurd (false≢true h)
+  either-put Lock External h = absurd (false≢true h)
+  either-put Unlock Driver h = absurd (false≢true h)
+  either-put Unlock Device h = absurd (false≢true h)
+  either-put Unlock External h = absurd (false≢true h)
 
   -- question 22: where it says no, those before it are not put
   pub green-number : (f : Family) (a : Actor) → q22 config b op f a ≡ false
@@ -273,6 +310,8 @@ module _ (config : Config) (b : State) (op : Operation) where
   green-number Destroy a h = absurd (true≢false h)
   green-number Activate a h = rw h
   green-number Deactivate a h = absurd (true≢false h)
+  green-number Lock a h = absurd (true≢false h)
+  green-number Unlock a h = absurd (true≢false h)
 
 -- where 22 says yes, the rest is as if it were not asked
 pub green-passed : (config : Config) (b : State) (op : Operation) (f : Family) (a : Actor)
@@ -309,6 +348,8 @@ next-number config b op f a h = go (enters f a) refl
     staying Destroy e = refl
     staying Activate e = refl
     staying Deactivate e = absurd (false≢true e)
+    staying Lock e = refl
+    staying Unlock e = refl
 
     go : (t : Bool) → enters f a ≡ t
         → ask 19 (q19 config b op f a) (ask 20 (q20 config b op f a) (ask 21 (q21 config b op f a) 0)) ≡ cond t 21 19

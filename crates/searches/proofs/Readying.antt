@@ -17,7 +17,16 @@ use Rattle.model.specs.Effect.{apply, answerBytes, concerned}
 use Rattle.model.specs.Questions.{q11, q13, q17, isObject, itemExists, isKind, itemFits, zoneOf}
 use Rattle.model.specs.Gate.{applied, judged}
 use Rattle.model.specs.declared.Family.{Family}
-use Rattle.model.specs.declared.Family.the-variants.{Write, Copy, Create, Destroy, Activate, Deactivate}
+use Rattle.model.specs.declared.Family.the-variants.{
+  Write,
+  Copy,
+  Create,
+  Destroy,
+  Activate,
+  Deactivate,
+  Lock,
+  Unlock,
+}
 use Rattle.model.specs.declared.Actor.{Actor}
 use Rattle.model.specs.declared.Config.{Config}
 use Rattle.model.specs.declared.Loaded.{Loaded}
@@ -192,6 +201,8 @@ module _ (config : Config) (room : ℕ) (area : List ℕ) (op : Operation) (f : 
   followed-right Activate c h p q =
       activated-contents room config op before (view-shape room area .contents) (formed .contents) c p
   followed-right Deactivate c h p q = absurd (false≢true h)
+  followed-right Lock c h p q = absurd (false≢true h)
+  followed-right Unlock c h p q = absurd (false≢true h)
 
   pub next-state : applied config op (view room area) ≡ apply config op f a (view room area)
   next-state =

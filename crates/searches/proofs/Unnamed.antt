@@ -11,7 +11,16 @@ use Rattle.model.specs.Effect.{concerned}
 use Rattle.model.specs.Closure.{unnamed}
 use Rattle.model.specs.Questions.{zoneOf, letsGo, q17, q20, itself}
 use Rattle.model.specs.declared.Family.{Family}
-use Rattle.model.specs.declared.Family.the-variants.{Write, Copy, Create, Destroy, Activate, Deactivate}
+use Rattle.model.specs.declared.Family.the-variants.{
+  Write,
+  Copy,
+  Create,
+  Destroy,
+  Activate,
+  Deactivate,
+  Lock,
+  Unlock,
+}
 use Rattle.model.specs.declared.Actor.{Actor}
 use Rattle.model.specs.declared.Config.{Config}
 use Rattle.model.specs.declared.Operation.{Operation}
@@ -30,6 +39,8 @@ leaves-is Create h = absurd (false≢true h)
 leaves-is Destroy h = absurd (false≢true h)
 leaves-is Activate h = absurd (false≢true h)
 leaves-is Deactivate h = refl
+leaves-is Lock h = absurd (false≢true h)
+leaves-is Unlock h = absurd (false≢true h)
 
 module _ (config : Config) (b : State) (op : Operation) where
   pub q20-free : (f : Family) (a : Actor) → leaves f ≡ false → true ≡ q20 config b op f a
@@ -40,6 +51,8 @@ module _ (config : Config) (b : State) (op : Operation) where
   q20-free Destroy a h = refl
   q20-free Activate a h = refl
   q20-free Deactivate a h = absurd (true≢false h)
+  q20-free Lock a h = refl
+  q20-free Unlock a h = refl
 
   abbrev pub stricter : Actor → Bool
   stricter a = every (config .counts .objects) (letsGo config b (concerned config op a))

@@ -11,7 +11,16 @@ use Rattle.model.specs.Operation.{objectAt, secondAt}
 use Rattle.model.specs.Closure.{described}
 use Rattle.model.specs.Questions.{readEntry, writeEntry, zoneOf}
 use Rattle.model.specs.declared.Family.{Family}
-use Rattle.model.specs.declared.Family.the-variants.{Write, Copy, Create, Destroy, Activate, Deactivate}
+use Rattle.model.specs.declared.Family.the-variants.{
+  Write,
+  Copy,
+  Create,
+  Destroy,
+  Activate,
+  Deactivate,
+  Lock,
+  Unlock,
+}
 use Rattle.model.specs.declared.Actor.{Actor}
 use Rattle.model.specs.declared.Config.{Config}
 use Rattle.model.specs.declared.Operation.{Operation}
@@ -26,6 +35,8 @@ stores Create = false
 stores Destroy = false
 stores Activate = false
 stores Deactivate = false
+stores Lock = false
+stores Unlock = false
 
 abbrev pub leaves : Family → Bool
 leaves Write = false
@@ -34,6 +45,8 @@ leaves Create = false
 leaves Destroy = false
 leaves Activate = false
 leaves Deactivate = true
+leaves Lock = false
+leaves Unlock = false
 
 abbrev pub activates : Family → Bool
 activates Write = false
@@ -42,6 +55,8 @@ activates Create = false
 activates Destroy = false
 activates Activate = true
 activates Deactivate = false
+activates Lock = false
+activates Unlock = false
 
 -- a device is brought in
 abbrev pub enters : Family → Actor → Bool
@@ -69,6 +84,8 @@ transferOf config b c Create o v = true
 transferOf config b c Destroy o v = true
 transferOf config b c Activate o v = true
 transferOf config b c Deactivate o v = true
+transferOf config b c Lock o v = true
+transferOf config b c Unlock o v = true
 
 unfoldable pub itemDescribed : Config → State → Operation → Family → ℕ → Bool
 itemDescribed config b op f i = transferOf config b (op .subject) f (objectAt op i) (secondAt op i)

@@ -37,6 +37,8 @@ pub fn is_leaving(f: Family) -> bool
         Family::Destroy => false,
         Family::Activate => false,
         Family::Deactivate => true,
+        Family::Lock => false,
+        Family::Unlock => false,
     }
 }
 

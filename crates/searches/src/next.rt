@@ -127,6 +127,8 @@ fn is_activating(f: Family) -> bool
         Family::Destroy => false,
         Family::Activate => true,
         Family::Deactivate => false,
+        Family::Lock => false,
+        Family::Unlock => false,
     }
 }
 

@@ -32,6 +32,8 @@ pub fn is_storing(f: Family) -> bool
         Family::Destroy => false,
         Family::Activate => false,
         Family::Deactivate => false,
+        Family::Lock => false,
+        Family::Unlock => false,
     }
 }
 
@@ -85,6 +87,8 @@ fn item_described(
         Family::Destroy => true,
         Family::Activate => true,
         Family::Deactivate => true,
+        Family::Lock => true,
+        Family::Unlock => true,
     }
 }
 

@@ -41,7 +41,7 @@ use Rattle.model.proofs.SameFile.{every-same}
 use Rattle.model.proofs.StateBytes.{status-byte, driver-byte, device-byte}
 use Rattle.state.specs.Bytes.{AtMost, Highest}
 use Rattle.state.specs.Change.{objectsLent, lent}
-use Rattle.state.specs.Formed.{statusesRight, assignmentsRight, Housed, Named}
+use Rattle.state.specs.Formed.{statusesRight, assignmentsRight, locksRight, Housed, Named}
 use Rattle.state.proofs.Places.{view-shape, driver-out, device-out}
 
 -- tests
@@ -59,10 +59,10 @@ and-true true = refl
 and-true false = refl
 
 module _ (p : ℕ → Bool) where
-  every-on : (i : ℕ) → every i p ≡ true → p (i + 1) ≡ true → every (i + 1) p ≡ true
+  pub every-on : (i : ℕ) → every i p ≡ true → p (i + 1) ≡ true → every (i + 1) p ≡ true
   every-on i h e = rw (add-one i, h) (rw (add-one i) at e)
 
-  every-off : (n i : ℕ) → i < n → p (i + 1) ≡ false → false ≡ every n p
+  pub every-off : (n i : ℕ) → i < n → p (i + 1) ≡ false → false ≡ every n p
   every-off zero i h e = absurd (omega arith)
   every-off (suc n) i h e = go (decLe (suc i) n) (λ (l : i < n). every-off n i l e)
     where
@@ -273,8 +273,11 @@ module _ (room : ℕ) (counts : Counts) (s : List ℕ) where
   abbrev devices : Bool
   devices = assignmentsRight (view room s) s (devicesFrom - 1) (counts .devices) mostDevices
 
-  parts-head : headFormed counted (view room s) ≡ ((statusesRight (view room s) && drivers) && devices)
-  unfolding headFormed lent statusesRight
+  abbrev locks : Bool
+  locks = locksRight counted (view room s)
+
+  parts-head : headFormed counted (view room s) ≡ (((statusesRight (view room s) && drivers) && devices) && locks)
+  unfolding headFormed lent statusesRight locksRight
   parts-head = rw (drivers-same room s (counts .drivers), devices-same room s (counts .devices))
 
   module _ (t : Bool) (f : t ≡ statusesRight (view room s)) where
@@ -285,23 +288,28 @@ module _ (room : ℕ) (counts : Counts) (s : List ℕ) where
       pub head-drivers : not u ≡ true → false ≡ headFormed counted (view room s)
       head-drivers x = sym (parts-head ∙ rw (← f, not-false t y, ← g, not-true u x))
 
-      pub head-devices : (v : Bool) → not u ≡ false → v ≡ devices → v ≡ headFormed counted (view room s)
-      head-devices v x e = e ∙ sym (parts-head ∙ rw (← f, not-false t y, ← g, not-false u x))
+      module _ (x : not u ≡ false) (v : Bool) (e : v ≡ devices) where
+        pub head-devices : not v ≡ true → false ≡ headFormed counted (view room s)
+        head-devices z = sym (parts-head ∙ rw (← f, not-false t y, ← g, not-false u x, ← e, not-true v z))
+
+        pub head-locks : (w : Bool) → not v ≡ false → w ≡ locks → w ≡ headFormed counted (view room s)
+        head-locks w z k =
+            k ∙ sym (parts-head ∙ rw (← f, not-false t y, ← g, not-false u x, ← e, not-false v z))
 
   -- a head found good
   pub housed : (t : Bool) → t ≡ headFormed counted (view room s) → not t ≡ false → Housed (view room s)
   unfolding Housed
   housed t e x =
       λ n. (
-        drivers-housed room s (counts .drivers) (and-r right drivers (and-l (right && drivers) devices all-three)) n,
-        devices-housed room s (counts .devices) (and-r (right && drivers) devices all-three) n,
+        drivers-housed room s (counts .drivers) (and-r right drivers (and-l (right && drivers) devices first-three)) n,
+        devices-housed room s (counts .devices) (and-r (right && drivers) devices first-three) n,
       )
     where
       right : Bool
       right = statusesRight (view room s)
 
-      all-three : ((right && drivers) && devices) ≡ true
-      all-three = sym parts-head ∙ (sym e ∙ not-false t x)
+      first-three : ((right && drivers) && devices) ≡ true
+      first-three = and-l ((right && drivers) && devices) locks (sym parts-head ∙ (sym e ∙ not-false t x))
 
   module _ (kind class owner hardcoded : List ℕ) (t : Bool) (f : t ≡ headFormed counted (view room s)) where
     abbrev parts : Config

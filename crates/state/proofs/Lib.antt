@@ -2,6 +2,7 @@ pub mod Splicing
 pub mod Runs
 pub mod Places
 pub mod Forms
+pub mod Locking
 pub mod Words
 pub mod Records
 pub mod Idle

@@ -14,14 +14,17 @@ use Rattle.model.specs.State.{
   driversFrom,
   devicesFrom,
   recordsFrom,
+  locksFrom,
   driverPlace,
   devicePlace,
   objectPlace,
   contentPlace,
+  lockPlace,
   statusOf,
   driverIn,
   deviceIn,
   objectIn,
+  lockOf,
   contentOf,
   held,
   cleared,
@@ -40,15 +43,17 @@ use Rattle.model.proofs.StateBytes.{
   device-byte,
   object-byte,
   content-bytes,
+  lock-byte,
   layout-view,
   store-status,
   store-driver,
   store-device,
   store-object,
   store-content,
+  store-lock,
 }
 use Rattle.state.specs.Splice.{splice, part}
-use Rattle.state.specs.Change.{withStatus, withDriver, withDevice, withObject, withContent}
+use Rattle.state.specs.Change.{withStatus, withDriver, withDevice, withObject, withContent, withLock}
 
 -- what a view shows has the right shape
 window-length : (k : ℕ) (s : List ℕ) → length (window k s) ≡ k
@@ -78,6 +83,7 @@ view-shape room s =
       objects = partitions-length room (drop recordsFrom s);
       contents = contents-length room (drop recordsFrom s);
       sixteen = contents-sixteen room (drop recordsFrom s);
+      locks = window-length mostDevices (drop (locksFrom room) s);
     }
 
 -- the first k bytes are there
@@ -105,6 +111,12 @@ module _ (room : ℕ) (s : List ℕ) where
 
   pub device-out : (c : ℕ) → mostDevices < c → 0 ≡ deviceIn (view room s) c
   device-out c h = sym (nth-past (view room s .device) c 0 (omega (arith, view-shape room s .devices)))
+
+  pub lock-in : (c : ℕ) → (c ≡ 0 → ⊥) → c ≤ mostDevices → getD s (lockPlace room c) 0 ≡ lockOf (view room s) c
+  lock-in c h k = sym (lock-byte room s c (omega arith) k)
+
+  pub lock-out : (c : ℕ) → mostDevices < c → 0 ≡ lockOf (view room s) c
+  lock-out c h = sym (nth-past (view room s .lock) c 0 (omega (arith, view-shape room s .locks)))
 
   pub object-in : (n : ℕ) → (n ≡ 0 → ⊥) → n ≤ room → getD s (objectPlace n) 0 ≡ objectIn (view room s) n
   object-in n h k = sym (object-byte room s n (omega arith) k)
@@ -181,6 +193,20 @@ module _ (room : ℕ) (s : List ℕ) (fits : length s ≡ areaLength room) where
   pub device-zero : (c v : ℕ) → c ≡ 0 → s ≡ layout (withDevice (view room s) c v)
   unfolding withDevice
   device-zero c v e = rw e (sym whole)
+
+  pub lock-stored : (c v : ℕ) → (c ≡ 0 → ⊥) → c ≤ mostDevices
+      → set s (lockPlace room c) v ≡ layout (withLock (view room s) c v)
+  unfolding withLock
+  lock-stored c v h k = ap (λ (l : List ℕ). set l (lockPlace room c) v) (sym whole)
+      ∙ store-lock room (view room s) (view-shape room s) c v (omega arith) k
+
+  pub lock-kept : (c v : ℕ) → mostDevices < c → s ≡ layout (withLock (view room s) c v)
+  unfolding withLock
+  lock-kept c v h = rw (put-out (view room s .lock) c v (omega (arith, view-shape room s .locks))) (sym whole)
+
+  pub lock-zero : (c v : ℕ) → c ≡ 0 → s ≡ layout (withLock (view room s) c v)
+  unfolding withLock
+  lock-zero c v e = rw e (sym whole)
 
   pub object-stored : (n v : ℕ) → (n ≡ 0 → ⊥) → n ≤ room
       → set s (objectPlace n) v ≡ layout (withObject (view room s) n v)

@@ -7,7 +7,7 @@ use mathlib.Core.Bool.{Bool, true, false, _&&_, cond}
 use native.Mathlib.Numerals.{add-one}
 use native.Mathlib.Omega.{arith}
 use lib.ListN.{length, getD, drop, set, replicate, length-replicate, replicate-append-replicate}
-use lib.Seq.{set-getD, drop-length}
+use lib.Seq.{set-getD, drop-at, drop-drop, drop-length}
 use lib.Dec.{leb, eqb}
 use borrow.Author.Fill.{fill-more}
 use borrow.Author.Tests.{le-leb, lt-leb, ne-eqb}
@@ -20,6 +20,8 @@ use Rattle.model.specs.State.{
   partitionsIn,
   contentsIn,
   recordsFrom,
+  locksFrom,
+  window,
   State,
   cleared,
   valueBytes,
@@ -29,9 +31,10 @@ use Rattle.model.specs.State.{
   layout,
   fresh,
 }
+use Rattle.model.specs.Older.{noLocks}
 use Rattle.model.specs.declared.Config.{Config}
 use Rattle.model.proofs.Lists.{all-put, length-put, partly, partly-get, partly-more, partly-all}
-use Rattle.model.proofs.StateLaws.{Sixteen, Shape, view-layout}
+use Rattle.model.proofs.StateLaws.{Sixteen, Shape, append-append, view-layout}
 use Rattle.model.proofs.StateBytes.{layout-view}
 use Rattle.state.specs.Bytes.{Lesser}
 use Rattle.state.specs.Change.{withDriver, withDevice, withObject, withContent, objectsLent}
@@ -50,6 +53,7 @@ module _ (room : ℕ) (s t : List ℕ) where
     objects = view-shape room s .objects;
     contents = view-shape room s .contents;
     sixteen = view-shape room s .sixteen;
+    locks = view-shape room s .locks;
   })
 
   pub after-device : (c v : ℕ) → t ≡ layout (withDevice (view room s) c v) → view room t ≡ withDevice (view room s) c v
@@ -61,6 +65,7 @@ module _ (room : ℕ) (s t : List ℕ) where
     objects = view-shape room s .objects;
     contents = view-shape room s .contents;
     sixteen = view-shape room s .sixteen;
+    locks = view-shape room s .locks;
   })
 
   pub after-object : (n v : ℕ) → t ≡ layout (withObject (view room s) n v) → view room t ≡ withObject (view room s) n v
@@ -72,6 +77,7 @@ module _ (room : ℕ) (s t : List ℕ) where
     objects = length-put (view room s .object) n v ∙ view-shape room s .objects;
     contents = view-shape room s .contents;
     sixteen = view-shape room s .sixteen;
+    locks = view-shape room s .locks;
   })
 
   pub after-content : (n : ℕ) (c : List ℕ) → Sixteen c → t ≡ layout (withContent (view room s) n c)
@@ -84,6 +90,7 @@ module _ (room : ℕ) (s t : List ℕ) where
     objects = view-shape room s .objects;
     contents = length-put (view room s .content) n c ∙ view-shape room s .contents;
     sixteen = all-put Sixteen (view room s .content) n c w (view-shape room s .sixteen);
+    locks = view-shape room s .locks;
   })
 
 -- both columns of objects done up to k
@@ -133,15 +140,17 @@ zeros-record k =
     let q : recordBytes * suc k ≡ recordBytes + recordBytes * k = omega arith in
     ap (λ (n : ℕ). replicate {A = ℕ} n 0) q ∙ sym (replicate-append-replicate recordBytes (recordBytes * k) 0)
 
-zeros-partitions : (k : ℕ) → partitionsIn k (replicate (recordBytes * k) 0) ≡ replicate k 0
-zeros-partitions zero = refl
-zeros-partitions (suc k) =
-    ap (partitionsIn (suc k)) (zeros-record k) ∙ ap (λ (l : List ℕ). 0 ∷ l) (zeros-partitions k)
+zeros-partitions : (k : ℕ) (t : List ℕ) → partitionsIn k (replicate (recordBytes * k) 0 ++ t) ≡ replicate k 0
+zeros-partitions zero t = refl
+zeros-partitions (suc k) t =
+    ap (λ (l : List ℕ). partitionsIn (suc k) (l ++ t)) (zeros-record k)
+    ∙ ap (λ (l : List ℕ). 0 ∷ l) (zeros-partitions k t)
 
-zeros-contents : (k : ℕ) → contentsIn k (replicate (recordBytes * k) 0) ≡ replicate k cleared
-zeros-contents zero = refl
-zeros-contents (suc k) =
-    ap (contentsIn (suc k)) (zeros-record k) ∙ ap (λ (l : List (List ℕ)). cleared ∷ l) (zeros-contents k)
+zeros-contents : (k : ℕ) (t : List ℕ) → contentsIn k (replicate (recordBytes * k) 0 ++ t) ≡ replicate k cleared
+zeros-contents zero t = refl
+zeros-contents (suc k) t =
+    ap (λ (l : List ℕ). contentsIn (suc k) (l ++ t)) (zeros-record k)
+    ∙ ap (λ (l : List (List ℕ)). cleared ∷ l) (zeros-contents k t)
 
 -- one object's contents in a fresh state
 module _ (objects : ℕ) (kind owner hardcoded : List ℕ) (n room : ℕ) (s : List ℕ) where
@@ -175,14 +184,31 @@ module _ (config : Config) (room : ℕ) where
   pub fresh-none : (s : List ℕ) → s ≡ replicate (areaLength room) 0 → view room s ≡ freshTo config room 0
   unfolding freshTo view fresh
   fresh-none s e =
-      ap (view room) (e ∙ sym (replicate-append-replicate recordsFrom (recordBytes * room) 0))
+      ap (view room) (e ∙ zeros-area)
       ∙ (λ i. record {
         status = replicate partitionCount 0;
         driver = replicate mostDrivers 0;
         device = replicate mostDevices 0;
-        object = zeros-partitions room i;
-        content = zeros-contents room i;
+        object = zeros-partitions room noLocks i;
+        content = zeros-contents room noLocks i;
+        lock = zeros-locks i;
       })
+    where
+      records : List ℕ
+      records = replicate (recordBytes * room) 0
+
+      zeros-area : replicate (areaLength room) 0 ≡ replicate recordsFrom 0 ++ (records ++ noLocks)
+      zeros-area =
+          sym (replicate-append-replicate (locksFrom room) mostDevices 0)
+          ∙ (ap (λ (l : List ℕ). l ++ noLocks) (sym (replicate-append-replicate recordsFrom (recordBytes * room) 0))
+          ∙ append-append (replicate recordsFrom 0) records noLocks)
+
+      zeros-locks : window mostDevices (drop (locksFrom room) (replicate recordsFrom 0 ++ (records ++ noLocks)))
+          ≡ noLocks
+      zeros-locks =
+          ap (window mostDevices) (sym (drop-drop (recordBytes * room) recordsFrom
+          (replicate recordsFrom 0 ++ (records ++ noLocks)))
+          ∙ drop-at records noLocks (recordBytes * room) (length-replicate (recordBytes * room) 0))
 
   abbrev isHardcoded : ℕ → Bool
   isHardcoded n = leb n (config .counts .objects) && eqb (kindOf config n) 4

@@ -8,7 +8,7 @@ use Rattle.model.specs.State.{State}
 use Rattle.model.specs.declared.Counts.{Counts}
 use Rattle.model.specs.declared.Config.{Config}
 
--- the status of partition p, or the partition of driver d, device c or object n, or its contents
+-- the status of partition p, or the partition of driver d, device c or object n, or its contents, or the lock of c
 unfoldable pub withStatus : State → ℕ → ℕ → State
 withStatus b p v = Columns.withStatus b (set (b .status) p v)
 
@@ -23,6 +23,9 @@ withObject b n p = Columns.withObject b (put (b .object) n p)
 
 unfoldable pub withContent : State → ℕ → List ℕ → State
 withContent b n c = Columns.withContent b (put (b .content) n c)
+
+unfoldable pub withLock : State → ℕ → ℕ → State
+withLock b c v = Columns.withLock b (put (b .lock) c v)
 
 -- the configuration with these counts and columns, and no values
 unfoldable pub objectsLent : ℕ → ℕ → List ℕ → List ℕ → List ℕ → List ℕ → Config

@@ -21,6 +21,7 @@ use Rattle.model.specs.State.{
   stands,
   assigned,
   rightAssignment,
+  rightLock,
   sameBytes,
   withOwner,
   view,
@@ -33,6 +34,10 @@ statusesRight b = eqb (statusOf b 0) 0 && all (λ s. leb s greenStatus) (b .stat
 -- the first k drivers or devices, the byte of number n at place before + n of the area s
 unfoldable pub assignmentsRight : State → List ℕ → ℕ → ℕ → ℕ → Bool
 assignmentsRight b s before many k = every k (λ n. rightAssignment b many n (getD s (before + n) 0))
+
+-- the locks of all devices
+unfoldable pub locksRight : Config → State → Bool
+locksRight config b = every mostDevices (λ c. rightLock config b c)
 
 unfoldable pub isValue : List ℕ → ℕ → Bool
 isValue c v = sameBytes c (valueBytes v)

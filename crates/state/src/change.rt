@@ -2,11 +2,12 @@
 ghost use mathlib.Core.Path.{_≡_};
 ghost use lib.ListN.{length};
 ghost use Rattle.model.specs.State.{cleared, areaLength, view, layout};
-ghost use Rattle.state.specs.Change.{withStatus, withDriver, withDevice, withObject, withContent};
+ghost use Rattle.state.specs.Change.{withStatus, withDriver, withDevice, withObject, withContent, withLock};
 use crate::DEVICE_BYTES;
 use crate::DEVICES_FROM;
 use crate::DRIVER_BYTES;
 use crate::DRIVERS_FROM;
+use crate::LOCK_BYTES;
 use crate::PARTITIONS;
 use crate::RECORD_BYTES;
 use crate::RECORDS_FROM;
@@ -46,6 +47,19 @@ pub fn set_device(area: &mut [u8], room: usize, c: usize, v: u8)
     }
     if c <= DEVICE_BYTES {
         area[DEVICES_FROM - 1 + c] = v;
+    }
+}
+
+// Device c gets the lock v.
+pub fn set_lock(area: &mut [u8], room: usize, c: usize, v: u8)
+    requires { ⌜ length (now area) ≡ areaLength room ⌝ }
+    ensures { λ _. ⌜ now (area .exit) ≡ layout (withLock (view room (now (area .entry))) c v) ⌝ }
+{
+    if c == 0 {
+        return;
+    }
+    if c <= LOCK_BYTES {
+        area[RECORDS_FROM - 1 + RECORD_BYTES * room + c] = v;
     }
 }
 

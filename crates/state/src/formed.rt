@@ -15,6 +15,7 @@ use crate::MOST_STATUS;
 use crate::PARTITIONS;
 use crate::bytes::copy;
 use crate::bytes::highest;
+use crate::locks::locks_formed;
 use crate::walk::BYTE_VALUES;
 use crate::walk::fill_numbered;
 use crate::walk::is_assigned;
@@ -65,7 +66,7 @@ fn assignments_formed<'a>(
     highest(area, before + many + 1, before + slots + 1) == 0
 }
 
-// The rules of the head: of the statuses, of the drivers' partition bytes and of the devices'.
+// The rules of the head: of the statuses, of the drivers' partition bytes, of the devices' and of their locks.
 fn is_head_formed<'a>(
     area: &[u8],
     room: usize,
@@ -89,14 +90,17 @@ fn is_head_formed<'a>(
     ) {
         return false;
     }
-    assignments_formed(
+    if !assignments_formed(
         area,
         room,
         DEVICES_FROM - 1,
         DEVICE_BYTES,
         counts.devices as usize,
         named,
-    )
+    ) {
+        return false;
+    }
+    locks_formed(area, room, counts)
 }
 
 // Question 9, for an area of the right length, with what it asks of the configuration lent: a caller that has the

@@ -5,13 +5,14 @@ ghost use lib.ListN.{length};
 ghost use lib.Dec.{eqb};
 ghost use Rattle.model.specs.Number.{mostNumber};
 ghost use Rattle.model.specs.State.{statusOf, stands, existing, green, driverIn, deviceIn, objectIn, contentOf, held};
-ghost use Rattle.model.specs.State.{areaLength, view};
+ghost use Rattle.model.specs.State.{lockOf, areaLength, view};
 use crate::DEVICE_BYTES;
 use crate::DEVICES_FROM;
 use crate::DRIVER_BYTES;
 use crate::DRIVERS_FROM;
 use crate::EXISTING;
 use crate::GREEN;
+use crate::LOCK_BYTES;
 use crate::PARTITIONS;
 use crate::RECORD_BYTES;
 use crate::RECORDS_FROM;
@@ -83,6 +84,21 @@ pub fn device(area: &[u8], room: usize, c: usize) -> u8
     }
     if c <= DEVICE_BYTES {
         area[DEVICES_FROM - 1 + c]
+    } else {
+        0
+    }
+}
+
+// The lock of device c.
+pub fn lock(area: &[u8], room: usize, c: usize) -> u8
+    requires { ⌜ length (now area) ≡ areaLength room ⌝ }
+    ensures { λ r. ⌜ r ≡ lockOf (view room (now (area .entry))) c ⌝ }
+{
+    if c == 0 {
+        return 0;
+    }
+    if c <= LOCK_BYTES {
+        area[RECORDS_FROM - 1 + RECORD_BYTES * room + c]
     } else {
         0
     }

@@ -3,6 +3,7 @@ ghost use mathlib.Core.Path.{_≡_};
 ghost use Prim.Native.Nat.{_≤_};
 ghost use Rattle.model.specs.Number.{mostNumber};
 ghost use Rattle.model.specs.State.{roomFor, areaLength};
+use crate::LOCK_BYTES;
 use crate::RECORD_BYTES;
 use crate::RECORDS_FROM;
 use model::MOST_OBJECTS;
@@ -24,5 +25,5 @@ pub fn area_length(room: usize) -> usize
     requires { ⌜ room ≤ mostNumber ⌝ }
     ensures { λ r. ⌜ r ≡ areaLength room ⌝ }
 {
-    RECORDS_FROM + RECORD_BYTES * room
+    RECORDS_FROM + RECORD_BYTES * room + LOCK_BYTES
 }

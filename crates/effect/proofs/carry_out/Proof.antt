@@ -14,6 +14,8 @@ use Rattle.effect.proofs.Effects.{
   did-activate-external,
   did-deactivate-driver,
   did-deactivate-device,
+  did-lock,
+  did-unlock,
   did-deactivate-external,
 }
 use Rattle.effect.proofs.carry_out.Statement.{statement}
@@ -42,6 +44,12 @@ deactivate-driver-requires c κs = search needs
 
 deactivate-device-requires : tie.Need-deactivate-device-requires
 deactivate-device-requires c κs = search needs
+
+lock-device-requires : tie.Need-lock-device-requires
+lock-device-requires c κs = search needs
+
+unlock-device-requires : tie.Need-unlock-device-requires
+unlock-device-requires c κs = search needs
 
 write-items-requires : tie.Need-write-items-requires
 write-items-requires c κs = (
@@ -116,30 +124,46 @@ same-length-8 c = search needs
 
 returns-8 : tie.Need-returns-8
 returns-8 c =
-    did-write _ _ _ _ _ _ (c .before .before .before .before .if2 .taken) (c .before .before .write-items .ensures)
+    did-lock _ _ _ _ _ _ (c .before .before .before .before .match .keys8) (c .before .before .lock-device .ensures)
 
 same-length-9 : tie.Need-same-length-9
 same-length-9 c = search needs
 
+returns-9 : tie.Need-returns-9
+returns-9 c =
+    did-unlock _ _ _ _ _ _ (c .before .before .before .before .match .keys9)
+    (c .before .before .unlock-device .ensures)
+
 same-length-10 : tie.Need-same-length-10
 same-length-10 c = search needs
 
-returns-9 : tie.Need-returns-9
-returns-9 c =
-    let f = c .before .before .before .before in
-    did-copy _ _ _ _ _ _ _ (f .before .before .before .before .if2 .left) (f .before .before .before .if3 .taken)
-    (f .copy-contents .ensures .0) (f .copy-contents .ensures .1)
+returns-10 : tie.Need-returns-10
+returns-10 c =
+    did-write _ _ _ _ _ _ (c .before .before .before .before .if2 .taken) (c .before .before .write-items .ensures)
 
 same-length-11 : tie.Need-same-length-11
 same-length-11 c = search needs
 
-returns-10 : tie.Need-returns-10
-returns-10 c =
+same-length-12 : tie.Need-same-length-12
+same-length-12 c = search needs
+
+returns-11 : tie.Need-returns-11
+returns-11 c =
+    let f = c .before .before .before .before in
+    did-copy _ _ _ _ _ _ _ (f .before .before .before .before .if2 .left) (f .before .before .before .if3 .taken)
+    (f .copy-contents .ensures .0) (f .copy-contents .ensures .1)
+
+same-length-13 : tie.Need-same-length-13
+same-length-13 c = search needs
+
+returns-12 : tie.Need-returns-12
+returns-12 c =
     let j = c .before .before .before .before in let r = j .before .match .rest in
     let q = j .before .before .before .before .pre in
+    let n = r .0 .0 in
     did-deactivate-external _ _ _ _ _ _ (⊎-elim (λ w. inl (w .taken)) (λ w. inr (w .2 .left)) (j .if1 .came))
-    (q .first) (q .last) (r .0 .0 .0 .0 .0 .0 .1) (r .0 .0 .0 .0 .0 .1) (r .0 .0 .0 .0 .1) (r .0 .0 .0 .1)
-    (r .0 .0 .1) (r .0 .1) (r .1) (c .before .before .deactivate-external .ensures)
+    (q .first) (q .last) (n .0 .0 .0 .0 .0 .0 .1) (n .0 .0 .0 .0 .0 .1) (n .0 .0 .0 .0 .1) (n .0 .0 .0 .1)
+    (n .0 .0 .1) (n .0 .1) (n .1) (r .0 .1) (r .1) (c .before .before .deactivate-external .ensures)
 
 pub carry-out-spec : {M : Type 1} → statement M
 carry-out-spec =
@@ -152,6 +176,8 @@ carry-out-spec =
     activate-external-requires
     deactivate-driver-requires
     deactivate-device-requires
+    lock-device-requires
+    unlock-device-requires
     write-items-requires
     copy-contents-requires
     deactivate-external-requires
@@ -172,7 +198,11 @@ carry-out-spec =
     same-length-8
     returns-8
     same-length-9
-    same-length-10
     returns-9
+    same-length-10
+    returns-10
     same-length-11
-    returns-10)
+    same-length-12
+    returns-11
+    same-length-13
+    returns-12)

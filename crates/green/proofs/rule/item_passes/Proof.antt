@@ -49,6 +49,12 @@ enum-told-5 c = search needs
 enum-told-6 : tie.Need-enum-told-6
 enum-told-6 c = search needs
 
+enum-told-7 : tie.Need-enum-told-7
+enum-told-7 c = search needs
+
+enum-told-8 : tie.Need-enum-told-8
+enum-told-8 c = search needs
+
 returns-4 : tie.Need-returns-4
 returns-4 c = search Ruling.write-value
 
@@ -66,6 +72,12 @@ returns-8 c = search Ruling.item-activate
 
 returns-9 : tie.Need-returns-9
 returns-9 c = search Ruling.item-deactivate
+
+returns-10 : tie.Need-returns-10
+returns-10 c = search Ruling.item-lock
+
+returns-11 : tie.Need-returns-11
+returns-11 c = search Ruling.item-unlock
 
 pub item-passes-spec : {M : Type 1} → statement M
 item-passes-spec =
@@ -86,9 +98,13 @@ item-passes-spec =
     enum-told-4
     enum-told-5
     enum-told-6
+    enum-told-7
+    enum-told-8
     returns-4
     returns-5
     returns-6
     returns-7
     returns-8
-    returns-9)
+    returns-9
+    returns-10
+    returns-11)

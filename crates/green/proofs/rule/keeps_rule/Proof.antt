@@ -31,6 +31,12 @@ enters-keeping-requires c κs = search needs
 enum-told-6 : tie.Need-enum-told-6
 enum-told-6 c = search needs
 
+enum-told-7 : tie.Need-enum-told-7
+enum-told-7 c = search needs
+
+enum-told-8 : tie.Need-enum-told-8
+enum-told-8 c = search needs
+
 returns : tie.Need-returns
 returns c = λ m. Ruling.rule-write m _ _ _ _ _ _ _ (c .before .enum-told .given .1) (c .stores-keep .ensures m _)
 
@@ -49,6 +55,12 @@ returns-5 c = λ m. Ruling.rule-activate m _ _ _ _ _ _ _ (c .before .enum-told5 
 returns-6 : tie.Need-returns-6
 returns-6 c = λ m. search Ruling.rule-deactivate
 
+returns-7 : tie.Need-returns-7
+returns-7 c = λ m. search Ruling.rule-lock
+
+returns-8 : tie.Need-returns-8
+returns-8 c = λ m. search Ruling.rule-unlock
+
 pub keeps-rule-spec : {M : Type 1} → statement M
 keeps-rule-spec =
     tie.close
@@ -62,9 +74,13 @@ keeps-rule-spec =
     enum-told-5
     enters-keeping-requires
     enum-told-6
+    enum-told-7
+    enum-told-8
     returns
     returns-2
     returns-3
     returns-4
     returns-5
-    returns-6)
+    returns-6
+    returns-7
+    returns-8)

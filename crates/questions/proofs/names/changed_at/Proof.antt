@@ -33,6 +33,12 @@ enum-told-6 c = search needs
 number-of-requires-4 : tie.Need-number-of-requires-4
 number-of-requires-4 c κs = search needs
 
+enum-told-7 : tie.Need-enum-told-7
+enum-told-7 c = search needs
+
+enum-told-8 : tie.Need-enum-told-8
+enum-told-8 c = search needs
+
 returns : tie.Need-returns
 returns c = rw (c .before .enum-told .given .1) (c .number-of .ensures)
 
@@ -51,6 +57,12 @@ returns-5 c = rw (c .before .enum-told5 .given .1) (c .number-of3 .ensures)
 returns-6 : tie.Need-returns-6
 returns-6 c = rw (c .before .enum-told6 .given .1) (c .number-of4 .ensures)
 
+returns-7 : tie.Need-returns-7
+returns-7 c = search needs
+
+returns-8 : tie.Need-returns-8
+returns-8 c = search needs
+
 pub changed-at-spec : {M : Type 1} → statement M
 changed-at-spec =
     tie.close
@@ -65,9 +77,13 @@ changed-at-spec =
     number-of-requires-3
     enum-told-6
     number-of-requires-4
+    enum-told-7
+    enum-told-8
     returns
     returns-2
     returns-3
     returns-4
     returns-5
-    returns-6)
+    returns-6
+    returns-7
+    returns-8)

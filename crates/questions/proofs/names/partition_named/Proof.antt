@@ -42,6 +42,12 @@ enum-told-9 c = search needs
 from-1-to-requires-4 : tie.Need-from-1-to-requires-4
 from-1-to-requires-4 c κs = search needs
 
+enum-told-10 : tie.Need-enum-told-10
+enum-told-10 c = search needs
+
+enum-told-11 : tie.Need-enum-told-11
+enum-told-11 c = search needs
+
 returns : tie.Need-returns
 returns c = search needs
 
@@ -67,6 +73,12 @@ returns-8 : tie.Need-returns-8
 returns-8 c =
     rw (c .before .before .before .enum-told6 .given .1, c .before .enum-told9 .given .1) (c .from-1-to4 .ensures)
 
+returns-9 : tie.Need-returns-9
+returns-9 c = search needs
+
+returns-10 : tie.Need-returns-10
+returns-10 c = search needs
+
 pub partition-named-spec : {M : Type 1} → statement M
 partition-named-spec =
     tie.close
@@ -84,6 +96,8 @@ partition-named-spec =
     enum-told-8
     enum-told-9
     from-1-to-requires-4
+    enum-told-10
+    enum-told-11
     returns
     returns-2
     returns-3
@@ -91,4 +105,6 @@ partition-named-spec =
     returns-5
     returns-6
     returns-7
-    returns-8)
+    returns-8
+    returns-9
+    returns-10)

@@ -34,6 +34,18 @@ enum-told-6 c = search needs
 is-active-requires-4 : tie.Need-is-active-requires-4
 is-active-requires-4 c κs = search needs
 
+enum-told-7 : tie.Need-enum-told-7
+enum-told-7 c = search needs
+
+is-active-requires-5 : tie.Need-is-active-requires-5
+is-active-requires-5 c κs = search needs
+
+enum-told-8 : tie.Need-enum-told-8
+enum-told-8 c = search needs
+
+is-active-requires-6 : tie.Need-is-active-requires-6
+is-active-requires-6 c κs = search needs
+
 returns : tie.Need-returns
 unfolding q16
 returns c = rw (c .before .enum-told .given .1) (c .is-active .ensures)
@@ -58,6 +70,14 @@ returns-6 : tie.Need-returns-6
 unfolding q16
 returns-6 c = rw (c .before .enum-told6 .given .1) (c .is-active4 .ensures)
 
+returns-7 : tie.Need-returns-7
+unfolding q16
+returns-7 c = rw (c .before .enum-told7 .given .1) (c .is-active5 .ensures)
+
+returns-8 : tie.Need-returns-8
+unfolding q16
+returns-8 c = rw (c .before .enum-told8 .given .1) (c .is-active6 .ensures)
+
 pub activity-fits-spec : {M : Type 1} → statement M
 activity-fits-spec =
     tie.close
@@ -72,9 +92,15 @@ activity-fits-spec =
     is-active-requires-3
     enum-told-6
     is-active-requires-4
+    enum-told-7
+    is-active-requires-5
+    enum-told-8
+    is-active-requires-6
     returns
     returns-2
     returns-3
     returns-4
     returns-5
-    returns-6)
+    returns-6
+    returns-7
+    returns-8)

@@ -14,6 +14,9 @@ left-empty-requires c κs = search needs
 activity-fits-requires : tie.Need-activity-fits-requires
 activity-fits-requires c κs = search needs
 
+lock-fits-requires : tie.Need-lock-fits-requires
+lock-fits-requires c κs = search needs
+
 placed-requires : tie.Need-placed-requires
 placed-requires c κs = search needs
 
@@ -29,18 +32,24 @@ ask-requires-3 c κs = search needs
 ask-requires-4 : tie.Need-ask-requires-4
 ask-requires-4 c κs = search needs
 
+ask-requires-5 : tie.Need-ask-requires-5
+ask-requires-5 c κs = search needs
+
 returns : tie.Need-returns
 unfolding placesNo
 returns c =
+    let a = c .before .before .before .before in
     rw (
-      c .ask4 .ensures,
-      c .before .ask3 .ensures,
-      c .before .before .ask2 .ensures,
-      c .before .before .before .ask .ensures,
-      c .before .before .before .before .before .before .before .status-fits .ensures,
-      c .before .before .before .before .before .before .left-empty .ensures,
-      c .before .before .before .before .before .activity-fits .ensures,
-      c .before .before .before .before .placed .ensures,
+      c .ask5 .ensures,
+      c .before .ask4 .ensures,
+      c .before .before .ask3 .ensures,
+      c .before .before .before .ask2 .ensures,
+      a .ask .ensures,
+      a .before .before .before .before .before .status-fits .ensures,
+      a .before .before .before .before .left-empty .ensures,
+      a .before .before .before .activity-fits .ensures,
+      a .before .before .lock-fits .ensures,
+      a .before .placed .ensures,
     )
 
 pub judge-places-spec : {M : Type 1} → statement M
@@ -50,9 +59,11 @@ judge-places-spec =
     status-fits-requires
     left-empty-requires
     activity-fits-requires
+    lock-fits-requires
     placed-requires
     ask-requires
     ask-requires-2
     ask-requires-3
     ask-requires-4
+    ask-requires-5
     returns)

@@ -25,6 +25,12 @@ enum-told-5 c = search needs
 enum-told-6 : tie.Need-enum-told-6
 enum-told-6 c = search needs
 
+enum-told-7 : tie.Need-enum-told-7
+enum-told-7 c = search needs
+
+enum-told-8 : tie.Need-enum-told-8
+enum-told-8 c = search needs
+
 returns : tie.Need-returns
 unfolding q15
 returns c = rw (c .enum-told .given .1)
@@ -49,6 +55,14 @@ returns-6 : tie.Need-returns-6
 unfolding q15
 returns-6 c = rw (c .enum-told6 .given .1)
 
+returns-7 : tie.Need-returns-7
+unfolding q15
+returns-7 c = rw (c .enum-told7 .given .1)
+
+returns-8 : tie.Need-returns-8
+unfolding q15
+returns-8 c = rw (c .enum-told8 .given .1)
+
 pub left-empty-spec : {M : Type 1} → statement M
 left-empty-spec =
     tie.close
@@ -60,9 +74,13 @@ left-empty-spec =
     nothing-in-requires
     enum-told-5
     enum-told-6
+    enum-told-7
+    enum-told-8
     returns
     returns-2
     returns-3
     returns-4
     returns-5
-    returns-6)
+    returns-6
+    returns-7
+    returns-8)

@@ -43,6 +43,12 @@ enum-told-9 c = search needs
 is-existing-requires-3 : tie.Need-is-existing-requires-3
 is-existing-requires-3 c κs = search needs
 
+enum-told-10 : tie.Need-enum-told-10
+enum-told-10 c = search needs
+
+enum-told-11 : tie.Need-enum-told-11
+enum-told-11 c = search needs
+
 returns : tie.Need-returns
 unfolding q14
 returns c = rw (c .enum-told .given .1)
@@ -80,6 +86,14 @@ returns-8 c =
       c .is-existing3 .ensures,
     )
 
+returns-9 : tie.Need-returns-9
+unfolding q14
+returns-9 c = rw (c .enum-told10 .given .1)
+
+returns-10 : tie.Need-returns-10
+unfolding q14
+returns-10 c = rw (c .enum-told11 .given .1)
+
 pub status-fits-spec : {M : Type 1} → statement M
 status-fits-spec =
     tie.close
@@ -97,6 +111,8 @@ status-fits-spec =
     enum-told-8
     enum-told-9
     is-existing-requires-3
+    enum-told-10
+    enum-told-11
     returns
     returns-2
     returns-3
@@ -104,4 +120,6 @@ status-fits-spec =
     returns-5
     returns-6
     returns-7
-    returns-8)
+    returns-8
+    returns-9
+    returns-10)

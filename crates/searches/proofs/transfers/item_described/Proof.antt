@@ -31,6 +31,12 @@ enum-told-5 c = search needs
 enum-told-6 : tie.Need-enum-told-6
 enum-told-6 c = search needs
 
+enum-told-7 : tie.Need-enum-told-7
+enum-told-7 c = search needs
+
+enum-told-8 : tie.Need-enum-told-8
+enum-told-8 c = search needs
+
 returns : tie.Need-returns
 returns c =
     λ m k x. let a = c .before .before .before .before in
@@ -52,6 +58,12 @@ returns-5 c = λ m k x. Asking.item-activate _ _ _ _ _ (c .enum-told5 .given .1)
 returns-6 : tie.Need-returns-6
 returns-6 c = λ m k x. Asking.item-deactivate _ _ _ _ _ (c .enum-told6 .given .1)
 
+returns-7 : tie.Need-returns-7
+returns-7 c = λ m k x. Asking.item-lock _ _ _ _ _ (c .enum-told7 .given .1)
+
+returns-8 : tie.Need-returns-8
+returns-8 c = λ m k x. Asking.item-unlock _ _ _ _ _ (c .enum-told8 .given .1)
+
 pub item-described-spec : {M : Type 1} → statement M
 item-described-spec =
     tie.close
@@ -64,9 +76,13 @@ item-described-spec =
     enum-told-4
     enum-told-5
     enum-told-6
+    enum-told-7
+    enum-told-8
     returns
     returns-2
     returns-3
     returns-4
     returns-5
-    returns-6)
+    returns-6
+    returns-7
+    returns-8)

@@ -1,6 +1,6 @@
 -- `state::formed::is_head_formed` meets its contract: a law for each part of the head. Assumes nothing.
 use borrow.Author.Needs.{needs}
-use Rattle.state.proofs.Forms.{head-status, head-drivers, head-devices}
+use Rattle.state.proofs.Forms.{head-status, head-drivers, head-devices, head-locks}
 use Rattle.state.proofs.formed.is_head_formed.Statement.{statement}
 use Rattle.state.proofs.formed.is_head_formed.Tie as tie
 
@@ -34,6 +34,12 @@ assignments-formed-requires-2 c κs = search needs
 returns-3 : tie.Need-returns-3
 returns-3 c = search head-devices
 
+locks-formed-requires : tie.Need-locks-formed-requires
+locks-formed-requires c κs = search needs
+
+returns-4 : tie.Need-returns-4
+returns-4 c = search head-locks
+
 pub is-head-formed-spec : {M : Type 1} → statement M
 is-head-formed-spec =
     tie.close
@@ -47,4 +53,6 @@ is-head-formed-spec =
     sub-assignments-formed-2
     cast-assignments-formed-2
     assignments-formed-requires-2
-    returns-3)
+    returns-3
+    locks-formed-requires
+    returns-4)

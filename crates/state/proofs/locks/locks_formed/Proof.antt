@@ -1,0 +1,38 @@
+-- `state::locks::locks_formed` meets its contract: no lock, or each is looked at. Assumes nothing.
+use borrow.Author.Needs.{needs}
+use Rattle.state.proofs.Locking.{locks-zero}
+use Rattle.state.proofs.locks.locks_formed.Statement.{statement}
+use Rattle.state.proofs.locks.locks_formed.Tie as tie
+
+mul-from : tie.Need-mul-from
+mul-from c = search needs
+
+add-from : tie.Need-add-from
+add-from c = search needs
+
+add-highest : tie.Need-add-highest
+add-highest c = search needs
+
+highest-requires : tie.Need-highest-requires
+highest-requires c κs = search needs
+
+returns : tie.Need-returns
+returns c = search locks-zero
+
+each-lock-right-requires : tie.Need-each-lock-right-requires
+each-lock-right-requires c κs = search needs
+
+returns-2 : tie.Need-returns-2
+returns-2 c = search needs
+
+pub locks-formed-spec : {M : Type 1} → statement M
+locks-formed-spec =
+    tie.close
+    (tie.spec
+    mul-from
+    add-from
+    add-highest
+    highest-requires
+    returns
+    each-lock-right-requires
+    returns-2)
