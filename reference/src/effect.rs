@@ -2,7 +2,7 @@
 
 use crate::config::{Config, Kind, Owner};
 use crate::operation::{Actor, Operation, Put};
-use crate::state::{CLEARED, Contents, DESTROYED, EXISTING, GREEN, NONE, State, holding};
+use crate::state::{CLEARED, Contents, DESTROYED, EXISTING, GREEN, LOCKED, NONE, State, UNLOCKED, holding};
 
 /// Objects concerned: codes 7 and 10 the driver's, 8 and 11 the device's (its kind 4 too), 9 and 12 the listed.
 pub fn concerned(config: &Config, operation: &Operation) -> Vec<usize> {
@@ -41,6 +41,9 @@ pub fn apply(config: &Config, state: &State, operation: &Operation) -> State {
         }
         Operation::Deactivate { .. } | Operation::DeactivateExternal { .. } => {
             moved(config, &mut next, operation, NONE);
+        }
+        Operation::Lock { actor, locked } => {
+            next.locks[actor.number() - 1] = if *locked { LOCKED } else { UNLOCKED };
         }
     }
     next

@@ -51,13 +51,13 @@ pub fn fresh(line: &[u8], state: &mut [u8]) -> u32 {
     }
 }
 
-/// Judges one operation and, at 0, carries it out: questions 1 to 22. At any other number both areas are as they were.
+/// Judges one operation and, at 0, carries it out: questions 1 to 23. At any other number both areas are as they were.
 pub fn operate(line: &[u8], state: &mut [u8], record: &[u8], answer: &mut [u8]) -> u32 {
     let judge = |config: &Config, state: &State, record: &[u8]| judge(closure, config, state, record);
     operate_with(load, judge, line, state, record, answer)
 }
 
-/// The same with a loader (questions 1 to 6) and a judge (questions 10 to 22) of the caller's choice.
+/// The same with a loader (questions 1 to 6) and a judge (questions 10 to 23) of the caller's choice.
 pub fn operate_with(
     load: impl Fn(&[u8]) -> Result<Config, u8>,
     judge: impl Fn(&Config, &State, &[u8]) -> Judgement,
@@ -94,7 +94,7 @@ fn to_judge(config: &Config, area: &[u8], answer_bytes: usize) -> Result<State, 
     if well_formed(config, &state) { Ok(state) } else { Err(9) }
 }
 
-/// Questions 10 to 22, for a well formed state.
+/// Questions 10 to 23, for a well formed state.
 pub fn judge(search: Search, config: &Config, state: &State, record: &[u8]) -> Judgement {
     let operation = operation::read(record).ok_or(10)?;
     let case = Case { config, state, operation: &operation, search };

@@ -1,5 +1,5 @@
-//! The limits of document 01 and of request N2, each named once. Nothing else in this package writes one of these
-//! numbers down.
+//! The limits of document 01 and of requests N2 and N6, each named once. Nothing else in this package writes one of
+//! these numbers down.
 
 /// The edition of a configuration file.
 pub const EDITION: usize = 1;
@@ -29,14 +29,15 @@ pub const MAX_ONE_BYTE: usize = 127;
 /// What an object holds.
 pub const CONTENT_BYTES: usize = 16;
 
-/// The state area: a byte for each partition (0 too), driver and device, and a record for each object that it has room
-/// for.
+/// The state area: a byte for each partition (0 too), driver and device, a record for each object that it has room for,
+/// and behind the last record a lock byte for each device (request N6).
 pub const STATUS_BYTES: usize = MAX_PARTITION + 1;
 pub const RECORD_BYTES: usize = 1 + CONTENT_BYTES;
 const RECORDS_FROM: usize = STATUS_BYTES + MAX_DRIVERS + MAX_DEVICES;
+pub const LOCK_BYTES: usize = MAX_DEVICES;
 /// Its two lengths: of small configurations and of wide ones.
-pub const STATE_BYTES: usize = RECORDS_FROM + SMALL_ROOM * RECORD_BYTES;
-pub const STATE_BYTES_WIDE: usize = RECORDS_FROM + MAX_OBJECTS * RECORD_BYTES;
+pub const STATE_BYTES: usize = area_bytes(SMALL_ROOM);
+pub const STATE_BYTES_WIDE: usize = area_bytes(MAX_OBJECTS);
 /// The least length of an answer area.
 pub const ANSWER_BYTES: usize = MAX_COUNT * CONTENT_BYTES;
 
@@ -49,7 +50,18 @@ pub const fn room_for(objects: usize) -> usize {
     if objects <= SMALL_ROOM { SMALL_ROOM } else { MAX_OBJECTS }
 }
 
+/// Where an object's record begins.
+pub const fn record_place(object: usize) -> usize {
+    RECORDS_FROM + (object - 1) * RECORD_BYTES
+}
+
+/// Where the lock bytes begin in a state area with so many object records: right behind the last. An area had this
+/// length before there were locks.
+pub const fn locks_place(room: usize) -> usize {
+    record_place(room + 1)
+}
+
 /// The length of a state area with so many object records.
 pub const fn area_bytes(room: usize) -> usize {
-    RECORDS_FROM + room * RECORD_BYTES
+    locks_place(room) + LOCK_BYTES
 }

@@ -51,6 +51,8 @@ pub enum Operation {
     Deactivate { actor: Actor },
     /// Code 12.
     DeactivateExternal { partition: usize, objects: Vec<usize> },
+    /// Code 14, and code 15 to unlock (request N6). The actor is the device that gets or loses its padlock.
+    Lock { actor: Actor, locked: bool },
 }
 
 /// Takes a record apart; nothing if it cannot be read to its last byte, or a byte is left over (question 10).
@@ -75,6 +77,7 @@ fn read_operation(reader: &mut Reader) -> Option<Operation> {
         9 => Operation::ActivateExternal { partition: number(reader)?, objects: counted(reader, number)? },
         10 | 11 => Operation::Deactivate { actor: actor(code, number(reader)?) },
         12 => Operation::DeactivateExternal { partition: number(reader)?, objects: counted(reader, number)? },
+        14 | 15 => Operation::Lock { actor: actor(code, number(reader)?), locked: code == 14 },
         _ => return None,
     })
 }
@@ -124,6 +127,7 @@ impl Operation {
             Operation::ActivateExternal { .. } => 9,
             Operation::Deactivate { actor } => by(actor, 10, 11),
             Operation::DeactivateExternal { .. } => 12,
+            Operation::Lock { locked, .. } => [15, 14][usize::from(*locked)],
         }
     }
 
@@ -132,7 +136,8 @@ impl Operation {
             Operation::Write { actor, .. }
             | Operation::Read { actor, .. }
             | Operation::Activate { actor, .. }
-            | Operation::Deactivate { actor } => Some(*actor),
+            | Operation::Deactivate { actor }
+            | Operation::Lock { actor, .. } => Some(*actor),
             _ => None,
         }
     }

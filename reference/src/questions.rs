@@ -1,4 +1,4 @@
-//! Questions 11 to 22, each put for the whole operation before the next. A question here is a function that answers yes
+//! Questions 11 to 23, each put for the whole operation before the next. A question here is a function that answers yes
 //! or no; the first no gives its number.
 
 use crate::closure::{self, Search};
@@ -21,14 +21,16 @@ pub struct Case<'a> {
 
 pub type Question = fn(&Case) -> bool;
 
-/// In the order in which they are asked: 22 comes before 21, and in a green zone in the place of 19.
-pub const QUESTIONS: [(u8, Question); 12] = [
+/// In the order in which they are asked: 23 comes right behind 16; 22 comes before 21, and in a green zone in the place
+/// of 19.
+pub const QUESTIONS: [(u8, Question); 13] = [
     (11, names_exist),
     (12, nothing_twice),
     (13, kinds_fit),
     (14, partition_fits),
     (15, destroyed_is_empty),
     (16, activity_fits),
+    (23, lock_fits),
     (17, objects_are_there),
     (18, transfers_are_described),
     (19, nothing_crosses_after),
@@ -108,22 +110,36 @@ fn destroyed_is_empty(case: &Case) -> bool {
     all.all(|place| usize::from(*place) != *partition)
 }
 
-/// Question 16: what is brought in is inactive; who acts, and what leaves, is active.
+/// Question 16: what is brought in, and a device that is locked or unlocked, is inactive; who acts, and what leaves, is
+/// active.
 fn activity_fits(case: &Case) -> bool {
-    let entering = matches!(case.operation, Operation::Activate { .. } | Operation::ActivateExternal { .. });
+    let inactive = matches!(
+        case.operation,
+        Operation::Activate { .. } | Operation::ActivateExternal { .. } | Operation::Lock { .. }
+    );
     let actor = case.operation.actor().map(|actor| actor_partition(case.state, actor));
     let listed = match case.operation {
         Operation::ActivateExternal { objects, .. } | Operation::DeactivateExternal { objects, .. } => &objects[..],
         _ => &[],
     };
     let mut places = actor.into_iter().chain(listed.iter().map(|object| case.state.object(*object)));
-    places.all(|partition| (partition == NONE) == entering)
+    places.all(|partition| (partition == NONE) == inactive)
 }
 
 fn actor_partition(state: &State, actor: Actor) -> u8 {
     match actor {
         Actor::Driver(driver) => state.driver(driver),
         Actor::Device(device) => state.device(device),
+    }
+}
+
+/// Question 23 (request N6): a device that is brought in or locked has no padlock, one that is unlocked has one.
+/// Nothing else looks at a lock.
+fn lock_fits(case: &Case) -> bool {
+    match case.operation {
+        Operation::Activate { actor: Actor::Device(device), .. } => !case.state.is_locked(*device),
+        Operation::Lock { actor, locked } => case.state.is_locked(actor.number()) != *locked,
+        _ => true,
     }
 }
 

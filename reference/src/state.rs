@@ -1,9 +1,9 @@
 //! The state (document 01: what a state area shows, the plain book): status of partitions, partitions of drivers,
-//! devices and objects, contents of objects; to and from the bytes of the state area; fresh; well formed (question 9),
-//! and the first record that is not (request N3).
+//! devices and objects, contents of objects, locks of devices; to and from the bytes of the state area; fresh; well
+//! formed (question 9), and the first record that is not (request N3).
 
 use crate::config::{Config, Kind, Owner};
-use crate::limits::{CONTENT_BYTES, MAX_DEVICES, MAX_DRIVERS, MAX_PARTITION, RECORD_BYTES, STATUS_BYTES};
+use crate::limits::{CONTENT_BYTES, LOCK_BYTES, MAX_DEVICES, MAX_DRIVERS, MAX_PARTITION, RECORD_BYTES, STATUS_BYTES};
 
 pub type Contents = [u8; CONTENT_BYTES];
 
@@ -20,6 +20,10 @@ pub const GREEN: u8 = 3;
 pub fn exists(status: u8) -> bool {
     status == EXISTING || status == GREEN
 }
+
+/// The lock byte of a device (request N6).
+pub const UNLOCKED: u8 = 0;
+pub const LOCKED: u8 = 1;
 
 /// Partition 0: none. What is in it is inactive.
 pub const NONE: u8 = 0;
@@ -46,6 +50,7 @@ pub struct State {
     pub drivers: Vec<u8>,
     pub devices: Vec<u8>,
     pub objects: Vec<Record>,
+    pub locks: Vec<u8>,
 }
 
 impl State {
@@ -56,6 +61,7 @@ impl State {
             drivers: vec![NONE; MAX_DRIVERS],
             devices: vec![NONE; MAX_DEVICES],
             objects: vec![EMPTY; config.room()],
+            locks: vec![UNLOCKED; LOCK_BYTES],
         };
         for device in 1..=config.devices() {
             let descriptor = config.hardcoded_object(device);
@@ -71,7 +77,8 @@ impl State {
         }
         let (status, rest) = area.split_at(STATUS_BYTES);
         let (drivers, rest) = rest.split_at(MAX_DRIVERS);
-        let (devices, records) = rest.split_at(MAX_DEVICES);
+        let (devices, rest) = rest.split_at(MAX_DEVICES);
+        let (records, locks) = rest.split_at(config.room() * RECORD_BYTES);
         let objects = records.chunks_exact(RECORD_BYTES).map(|record| {
             let mut contents = CLEARED;
             contents.copy_from_slice(&record[1..]);
@@ -82,6 +89,7 @@ impl State {
             drivers: drivers.to_vec(),
             devices: devices.to_vec(),
             objects: objects.collect(),
+            locks: locks.to_vec(),
         })
     }
 
@@ -91,6 +99,7 @@ impl State {
             area.push(record.partition);
             area.extend_from_slice(&record.contents);
         }
+        area.extend_from_slice(&self.locks);
         area
     }
 
@@ -100,6 +109,11 @@ impl State {
 
     pub fn device(&self, number: usize) -> u8 {
         self.devices[number - 1]
+    }
+
+    /// Whether a device has a padlock.
+    pub fn is_locked(&self, device: usize) -> bool {
+        self.locks[device - 1] == LOCKED
     }
 
     /// The partition of an object.
@@ -134,13 +148,13 @@ impl State {
     }
 }
 
-/// Question 9: the rules of the head, and no record breaks one.
+/// Question 9: the rules of the head, no record breaks one, and those of the lock bytes.
 pub fn well_formed(config: &Config, state: &State) -> bool {
-    head_fits(config, state) && first_bad(config, state) == 0
+    head_fits(config, state) && first_bad(config, state) == 0 && locks_fit(config, state)
 }
 
 /// The number, from 1, of the first object record that breaks a rule of Well formed; 0 if none does. It is right
-/// whatever stands in the head.
+/// whatever stands in the head, and looks at no lock byte.
 pub fn first_bad(config: &Config, state: &State) -> usize {
     (1..=state.objects.len()).find(|number| !record_fits(config, state, *number)).unwrap_or(0)
 }
@@ -150,6 +164,15 @@ pub fn head_fits(config: &Config, state: &State) -> bool {
     statuses_fit(state)
         && actors_fit(state, &state.drivers, config.drivers)
         && actors_fit(state, &state.devices, config.devices())
+}
+
+/// The rules on the lock bytes behind the records: each is 0 or 1, an absent device's is 0, and a locked device is in
+/// no partition.
+pub fn locks_fit(config: &Config, state: &State) -> bool {
+    let known = state.locks.iter().all(|lock| matches!(*lock, UNLOCKED | LOCKED));
+    let absent = state.locks[config.devices()..].iter().all(|lock| *lock == UNLOCKED);
+    let mut locked = (1..=config.devices()).filter(|device| state.is_locked(*device));
+    known && absent && locked.all(|device| state.device(device) == NONE)
 }
 
 /// The rules on one record. Every record behind the last object's is an absent object's, as many as the area has.

@@ -50,7 +50,7 @@ pub fn of_operation(operation: &Operation) -> Vec<Token> {
     match operation {
         Operation::Create { partition, .. } | Operation::Destroy { partition } => numbers(&[*partition]),
         Operation::Activate { actor, partition } => numbers(&[actor.number(), *partition]),
-        Operation::Deactivate { actor } => numbers(&[actor.number()]),
+        Operation::Deactivate { actor } | Operation::Lock { actor, .. } => numbers(&[actor.number()]),
         Operation::ActivateExternal { partition, objects } | Operation::DeactivateExternal { partition, objects } => {
             numbers(&[*partition, objects.len()]);
             numbers(objects);

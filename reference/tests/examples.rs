@@ -1,9 +1,9 @@
-//! The examples of document 01 and of requests N4 and N5.
+//! The examples of document 01 and of requests N4, N5 and N6.
 
 mod common;
 
-use common::{Desk, desk_after_seven, file_l, sequence_p};
-use reference::limits::{ANSWER_BYTES, STATE_BYTES};
+use common::{Desk, SMALL_AREA, SMALL_LOCKS, WIDE_AREA, WIDE_LOCKS, desk_after_seven, file_l, sequence_p};
+use reference::limits::{ANSWER_BYTES, STATE_BYTES, STATE_BYTES_WIDE, locks_place};
 use reference::tokens::row;
 use reference::{fresh, load_check, operate, report};
 
@@ -128,6 +128,27 @@ fn a_ring_card_stays_out_of_green_zones() {
 }
 
 #[test]
+fn locks_over_l() {
+    let rows: [(&[usize], u32); 14] = [
+        (&[14, 1], 0),
+        (&[14, 1], 23),
+        (&[5, 1], 0),
+        (&[8, 1, 1], 23),
+        (&[8, 1, 9], 14),
+        (&[15, 1], 0),
+        (&[15, 1], 23),
+        (&[8, 1, 1], 0),
+        (&[14, 1], 16),
+        (&[15, 1], 16),
+        (&[14, 3], 11),
+        (&[14, 0], 11),
+        (&[11, 1], 0),
+        (&[14, 1], 0),
+    ];
+    judged(&file_l(), &rows);
+}
+
+#[test]
 fn a_copy_by_a_device_is_a_write_transfer() {
     assert_eq!(desk_after_seven().numbers(&[4, 1, 1, 2, 4]), 18);
     assert_eq!(desk_after_seven().numbers(&[4, 1, 1, 2, 0]), 0);
@@ -161,7 +182,8 @@ fn state_areas_of_other_lengths() {
         fresh(&file_l(), &mut state[..length.min(STATE_BYTES)]);
         assert_eq!(operate(&file_l(), &mut state, &row(&[5, 1]), &mut [0; ANSWER_BYTES]), answer);
     }
-    assert_eq!(STATE_BYTES, 1_728);
+    assert_eq!((STATE_BYTES, STATE_BYTES_WIDE), (SMALL_AREA, WIDE_AREA));
+    assert_eq!((locks_place(96), locks_place(192)), (SMALL_LOCKS, WIDE_LOCKS));
 }
 
 #[test]

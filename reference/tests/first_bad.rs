@@ -3,7 +3,7 @@
 
 mod common;
 
-use common::desk_after_seven;
+use common::{SMALL_AREA, SMALL_LOCKS, WIDE_AREA, desk_after_seven};
 use reference::faults::walks::{FORMED, NO_GREEN, WALKS};
 use reference::generate::damaged::{Damaged, Line, lines, sound};
 use reference::generate::lengths::plain_line;
@@ -19,6 +19,11 @@ const REFUSED: u64 = 4_294_967_296;
 /// Where an object's record begins.
 fn at(object: usize) -> usize {
     96 + 17 * (object - 1)
+}
+
+/// The length of an area with room for 96 or for 192 objects.
+fn length(room: usize) -> usize {
+    if room == 96 { SMALL_AREA } else { WIDE_AREA }
 }
 
 /// The record that is found, and the answer to an operation with an empty record: 10 if the state is well formed. An
@@ -77,7 +82,7 @@ fn every_byte_of_an_absent_record_counts() {
         let line = plain_line(objects);
         for number in [objects + 1, objects + 2, room - 1, room] {
             for byte in (0..17).filter(|_| (objects + 1..=room).contains(&number)) {
-                let mut area = vec![0; at(room + 1)];
+                let mut area = vec![0; length(room)];
                 area[1] = 1;
                 area[at(number) + byte] = 1;
                 assert_eq!(found(&line, &area), (number as u64, 9), "{objects} objects, record {number}, byte {byte}");
@@ -86,7 +91,7 @@ fn every_byte_of_an_absent_record_counts() {
     }
     // No record is absent, and contents are free.
     for objects in [96, 192] {
-        let area = [vec![0; 96], [vec![0], vec![255; 16]].concat().repeat(objects)].concat();
+        let area = [vec![0; 96], [vec![0], vec![255; 16]].concat().repeat(objects), vec![0; 16]].concat();
         assert_eq!(found(&plain_line(objects), &area), (0, 10));
     }
 }
@@ -97,7 +102,7 @@ fn every_record_of_both_rooms_can_be_the_first() {
         // Kind 1 everywhere, and no value but 0.
         let line = row(&[&[1, 0, 0, objects, 0][..], &[1, 0, 0].repeat(objects)].concat());
         for number in 1..=objects {
-            let mut area = vec![0; at(objects + 1)];
+            let mut area = vec![0; length(objects)];
             (number..=objects).for_each(|bad| area[at(bad) + 1] = 1);
             assert_eq!(found(&line, &area), (number as u64, 9), "{number} and all behind it");
             (number + 1..=objects).for_each(|good| area[at(good) + 1] = 0);
@@ -108,7 +113,8 @@ fn every_record_of_both_rooms_can_be_the_first() {
 
 #[test]
 fn the_smaller_of_two_counts() {
-    let bad = [(at(1) + 1, 2), (at(2) + 1, 6), (at(3), 1), (at(4), 0), (at(5), 3), (at(6), 0), (at(7), 1), (1_727, 1)];
+    let bad =
+        [(at(1) + 1, 2), (at(2) + 1, 6), (at(3), 1), (at(4), 0), (at(5), 3), (at(6), 0), (at(7), 1), (at(96) + 16, 1)];
     for (first, change) in bad.iter().enumerate() {
         for later in &bad[first + 1..] {
             let number = (change.0 - 96) / 17 + 1;
@@ -118,16 +124,20 @@ fn the_smaller_of_two_counts() {
 }
 
 #[test]
-fn a_head_that_breaks_no_record_gives_0_and_question_9_says_no() {
+fn a_head_or_lock_that_breaks_no_record_gives_0_and_question_9_says_no() {
     let heads =
         [(0, 1), (0, 2), (0, 3), (0, 255), (3, 4), (63, 255), (65, 3), (65, 64), (66, 1), (79, 2), (82, 1), (95, 1)];
-    for change in heads {
+    // Both devices are active, and there is no third.
+    let of = |device: usize| SMALL_LOCKS + device - 1;
+    let locks = [(of(1), 1), (of(1), 2), (of(2), 1), (of(2), 255), (of(3), 1), (of(16), 1), (of(16), 2)];
+    let heads = [&heads[..], &locks].concat();
+    for change in heads.iter().copied() {
         assert_eq!(with_bytes(&[change]), (0, 9), "{change:?}");
     }
     // The walk is right beside it.
     for change in heads {
         assert_eq!(with_bytes(&[change, (at(4), 0)]), (4, 9), "{change:?}");
-        assert_eq!(with_bytes(&[change, (1_711, 7)]), (96, 9), "{change:?}");
+        assert_eq!(with_bytes(&[change, (at(96), 7)]), (96, 9), "{change:?}");
     }
 }
 
@@ -193,7 +203,7 @@ fn damaged_areas_tell_every_faulty_question_9() {
 
 #[test]
 fn files_come_first_then_the_length() {
-    for (objects, needed) in [(0, 1_728), (96, 1_728), (97, 3_360), (192, 3_360)] {
+    for (objects, needed) in [(0, SMALL_AREA), (96, SMALL_AREA), (97, WIDE_AREA), (192, WIDE_AREA)] {
         let line = plain_line(objects);
         for length in 0..=4_096 {
             let expected = if length == needed { 0 } else { REFUSED + 7 };
@@ -207,7 +217,7 @@ fn files_come_first_then_the_length() {
         let size = Size::any(&mut rng);
         let world = world(&mut rng, size);
         let line = broken::line(&mut rng, &world, number);
-        let length = [0, 1_728, 3_360][rng.below(3)];
+        let length = [0, SMALL_AREA, WIDE_AREA][rng.below(3)];
         if let Err(question) = load(&line) {
             assert_eq!(first_bad(&line, &rng.bytes(length)), REFUSED + u64::from(question));
         }
@@ -220,10 +230,10 @@ fn any_area_gives_a_place_within_the_room() {
     for _ in 0..300 {
         let size = Size::any(&mut rng);
         let world = world(&mut rng, size);
-        let room = if world.config.objects.len() <= 96 { 96 } else { 192 };
-        let place = first_bad(&world.line, &rng.bytes(at(room + 1)));
-        assert!(place <= room as u64);
-        let mut area = vec![0; at(room + 1)];
+        let (room, length) = if world.config.objects.len() <= 96 { (96, SMALL_AREA) } else { (192, WIDE_AREA) };
+        let place = first_bad(&world.line, &rng.bytes(length));
+        assert!(place <= room);
+        let mut area = vec![0; length];
         assert_eq!(fresh(&world.line, &mut area), 0);
         assert_eq!(found(&world.line, &area), (0, 10));
     }
@@ -237,7 +247,7 @@ fn records_that_are_put_right_one_by_one_lead_to_a_well_formed_state() {
         let right = sound(&mut rng, &world.config).to_bytes();
         let mut area = right.clone();
         for _ in 0..rng.between(1, 40) {
-            let place = rng.between(96, area.len() - 1);
+            let place = rng.between(96, area.len() - 17);
             area[place] = rng.between(0, 255) as u8;
         }
         let mut last = 0;

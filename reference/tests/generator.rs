@@ -83,8 +83,8 @@ fn areas_are_broken_or_well_formed_as_asked() {
 }
 
 /// How many answers of each number worlds of a size give, and the depths of searches that end accepted and refused.
-fn survey(make: fn(&mut Rng, Size) -> World, size: Size) -> ([usize; 23], [BTreeSet<usize>; 2]) {
-    let mut seen = [0; 23];
+fn survey(make: fn(&mut Rng, Size) -> World, size: Size) -> ([usize; 24], [BTreeSet<usize>; 2]) {
+    let mut seen = [0; 24];
     let mut depths = [BTreeSet::new(), BTreeSet::new()];
     for seed in 0..60 {
         let mut rng = Rng::part(5, seed);

@@ -9,7 +9,7 @@ use reference::generate::stored::{GREEN_CASES, MOST_INPUT, RING_CASES, long, wit
 use reference::generate::{Folder, Rng, Size, sessions::folder, stored};
 use reference::office::next_record;
 use reference::varint::Reader;
-use reference::{load, operation, report};
+use reference::{load, operation, report, varint};
 
 fn text(line: &[u8], session: &[u8]) -> String {
     String::from_utf8(report(line, session)).expect("plain text")
@@ -97,35 +97,43 @@ fn the_cases_of_before_come_first() {
     let behind = stored::cases(&cases.input[130_929..147_001]).expect("whole cases");
     let ringed = behind.iter().filter(|case| load(&case.line).is_ok_and(|config| config.has_rings()));
     assert!(ringed.count() > 45);
-    let behind = stored::cases(&cases.input[147_001..]).expect("whole cases");
-    assert_eq!(behind.iter().filter(|case| green_records(&case.session).contains(&true)).count(), behind.len() - 1);
+    assert_eq!(checksum(&cases.input[..159_834]), 0x8723_EF9D_2632_136D);
+    let behind = stored::cases(&cases.input[147_001..159_834]).expect("whole cases");
+    assert_eq!(behind.iter().filter(|case| codes(&case.session).contains(&13)).count(), behind.len() - 1);
 }
 
-/// For each record of a session whether it creates a green zone.
-fn green_records(session: &[u8]) -> Vec<bool> {
+/// The codes of a session's records; 0 for one that cannot be read.
+fn codes(session: &[u8]) -> Vec<usize> {
     let mut reader = Reader::new(session);
     let records = std::iter::from_fn(|| next_record(&mut reader));
-    let is_green = |record: &[u8]| operation::read(record).is_some_and(|operation| operation.code() == 13);
-    records.map(is_green).collect()
+    records.map(|record| operation::read(record).map_or(0, |operation| operation.code())).collect()
 }
 
-/// What a case printed before there were green zones: records of code 13 could not be read.
-fn text_of_before(case: &Folder) -> String {
-    let text = text(&case.line, &case.session);
-    if text.starts_with("line") {
-        return text;
+fn count_of(cases: &[Folder], wanted: &[usize]) -> usize {
+    cases.iter().flat_map(|case| codes(&case.session)).filter(|code| wanted.contains(code)).count()
+}
+
+/// What a case printed when there was no code above this one: a record of such a code could not be read, like the empty
+/// one that stands in its place here. What is cut at the end stays.
+fn text_up_to(last: usize, case: &Folder) -> String {
+    let mut session = Vec::new();
+    let mut rest = &case.session[..];
+    while let Some(record) = next_record(&mut Reader::new(rest)).filter(|_| !rest.is_empty()) {
+        let known = operation::read(record).is_none_or(|operation| operation.code() <= last);
+        let kept = if known { record } else { &[] };
+        varint::write(kept.len(), &mut session);
+        session.extend(kept);
+        let mut length = Vec::new();
+        varint::write(record.len(), &mut length);
+        rest = &rest[length.len() + record.len()..];
     }
-    let green = green_records(&case.session);
-    let rows = text.lines().enumerate().map(|(place, row)| match green.get(place) {
-        Some(true) => format!("{} 10\n", place + 1),
-        _ => format!("{row}\n"),
-    });
-    rows.collect()
+    session.extend(rest);
+    text(&case.line, &session)
 }
 
 /// Two of the files stored before there were rings have a hardcoded value that writes a descriptor: they were refused
-/// by 6 then. Two records stored before there were green zones have code 13, and were refused by 10. All others have
-/// their answers of before.
+/// by 6 then. Two records stored before there were green zones have code 13, and were refused by 10; two of those
+/// stored before there were locks have code 14 or 15. All others have their answers of before.
 #[test]
 fn the_cases_of_before_keep_their_answers() {
     let stored = with_drills(1, 300, 120_000);
@@ -133,8 +141,10 @@ fn the_cases_of_before_keep_their_answers() {
     let expected = |cases: &[Folder], text: &dyn Fn(&Folder) -> String| -> Vec<u8> {
         cases.iter().flat_map(|case| (text(case) + ".\n").into_bytes()).collect()
     };
-    let green = before(147_001).iter().flat_map(|case| green_records(&case.session)).filter(|green| *green).count();
-    assert_eq!(green, 2);
+    assert_eq!(count_of(&before(159_834), &[14, 15]), 2);
+    assert_eq!(checksum(&expected(&before(159_834), &|case| text_up_to(13, case))), 0x98AA_ECF6_A78C_78BE);
+    assert_eq!(count_of(&before(147_001), &[13]), 2);
+    let text_of_before = |case: &Folder| text_up_to(12, case);
     assert_eq!(checksum(&expected(&before(147_001), &text_of_before)), 0xA2B7_2DF7_2894_8365);
     let has_rings = |line: &[u8]| load(line).is_ok_and(|config| config.has_rings());
     let cases = before(130_929);

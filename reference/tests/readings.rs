@@ -3,7 +3,7 @@
 
 mod common;
 
-use common::{Desk, desk_after_seven, file_l};
+use common::{Desk, SMALL_AREA, desk_after_seven, file_l};
 use reference::generate::Rng;
 use reference::tokens::row;
 use reference::{fresh, load_check};
@@ -265,9 +265,9 @@ fn a_destroyed_partition_is_not_new() {
 
 #[test]
 fn fresh_overwrites_whatever_the_area_held() {
-    let mut state = Rng::new(1).bytes(1_728);
+    let mut state = Rng::new(1).bytes(SMALL_AREA);
     assert_eq!(fresh(&file_l(), &mut state), 0);
-    let mut expected = vec![0; 1_728];
+    let mut expected = vec![0; SMALL_AREA];
     (expected[97], expected[96 + 34 + 1]) = (1, 2);
     assert_eq!(state, expected);
 }

@@ -193,6 +193,8 @@ fn question_10_wherever_a_record_is_cut() {
         &[3, 1, 2, 2, 0, 6, 5],
         &[5, 3],
         &[13, 4],
+        &[14, 1],
+        &[15, 1],
         &[6, 2],
         &[7, 2, 1],
         &[9, 1, 1, 5],
@@ -208,10 +210,12 @@ fn question_10_wherever_a_record_is_cut() {
         assert_ne!(desk.record(record), 10);
     }
     let mut desk = desk_after_seven();
-    let unreadable: [&[u8]; 12] = [
+    let unreadable: [&[u8]; 14] = [
         &[0],
-        &[14, 1],
-        &[15, 1],
+        &[16, 1],
+        &[17, 1],
+        &[14, 129, 0],
+        &[143, 0, 1],
         &[13, 131, 0],
         &[141, 0, 3],
         &[5, 131, 0],

@@ -30,7 +30,7 @@ struct Gate<'a> {
 }
 
 /// How many lists a trial has.
-const SEEDS: u64 = 500;
+const SEEDS: u64 = 800;
 
 /// What a trial went through.
 #[derive(Debug, Default)]

@@ -1,15 +1,28 @@
 //! The program `vectors` on cases of each kind that requests N2 and N3 brought, and on those whose areas have another
-//! length since N2. A row's checksum is worked out here anew.
+//! length since N2, and another again since N6. A row's checksum is worked out here anew.
 
 mod common;
 
-use common::file_l;
+use common::{SMALL_AREA, SMALL_LOCKS, WIDE_AREA, WIDE_LOCKS, file_l};
 use reference::generate::lengths::plain_line;
 use reference::{load, memory};
 use std::io::Write;
 use std::process::{Command, Stdio};
 
 const REFUSED: u64 = 4_294_967_296;
+/// Lengths of areas: both that are needed, each with a byte less and more, and both of before there were locks.
+const LENGTHS: [usize; 10] = [
+    0,
+    SMALL_LOCKS,
+    SMALL_AREA - 1,
+    SMALL_AREA,
+    SMALL_AREA + 1,
+    WIDE_LOCKS,
+    WIDE_AREA - 1,
+    WIDE_AREA,
+    WIDE_AREA + 1,
+    4_096,
+];
 /// What a case gets that is none.
 const NONE: (u64, u64) = (255, 0);
 
@@ -57,7 +70,7 @@ fn operated(line: &[u8], length: usize, patches: &[(usize, u8)]) -> Vec<u8> {
 
 #[test]
 fn fresh_states_in_areas_of_the_length_that_the_line_needs() {
-    for (objects, length) in [(0, 1_728), (96, 1_728), (97, 3_360), (192, 3_360)] {
+    for (objects, length) in [(0, SMALL_AREA), (96, SMALL_AREA), (97, WIDE_AREA), (192, WIDE_AREA)] {
         let line = plain_line(objects);
         let old = |length: usize| checksum(&vec![170; length]);
         let cases = [2, 5, 6].map(|call| (call, line.clone()));
@@ -65,7 +78,7 @@ fn fresh_states_in_areas_of_the_length_that_the_line_needs() {
     }
     // A refused file has the shorter one.
     let refused = [2, 5, 6].map(|call| (call, plain_line(193)));
-    let old = [1_728, 1_727, 1_729].map(|length| (3, checksum(&vec![170; length])));
+    let old = [SMALL_AREA, SMALL_AREA - 1, SMALL_AREA + 1].map(|length| (3, checksum(&vec![170; length])));
     assert_eq!(rows(&refused), old);
 }
 
@@ -73,17 +86,17 @@ fn fresh_states_in_areas_of_the_length_that_the_line_needs() {
 fn fresh_states_in_areas_of_a_given_length() {
     let mut cases = Vec::new();
     let mut expected = Vec::new();
-    for (objects, needed) in [(0, 1_728), (96, 1_728), (97, 3_360), (192, 3_360)] {
-        for length in [0, 1_727, 1_728, 1_729, 3_359, 3_360, 3_361, 4_096] {
+    for (objects, needed) in [(0, SMALL_AREA), (96, SMALL_AREA), (97, WIDE_AREA), (192, WIDE_AREA)] {
+        for length in LENGTHS {
             cases.push((8, [&two(length)[..], &plain_line(objects)].concat()));
             expected.push(if length == needed { (0, 0) } else { (7, checksum(&vec![170; length])) });
         }
     }
     assert_eq!(rows(&cases), expected);
     // The values of L's two hardcoded descriptors stand in the records 1 and 3.
-    let mut area = vec![0; 1_728];
+    let mut area = vec![0; SMALL_AREA];
     (area[97], area[131]) = (1, 2);
-    assert_eq!(row(8, [&two(1_728)[..], &file_l()].concat()), (0, checksum(&area)));
+    assert_eq!(row(8, [&two(SMALL_AREA)[..], &file_l()].concat()), (0, checksum(&area)));
     assert_eq!(row(8, [&two(5)[..], &file_l()[..40]].concat()), (1, checksum(&[170; 5])));
     assert_eq!(rows(&[(8, vec![]), (8, vec![9]), (8, [&two(4_097)[..], &file_l()].concat())]), [NONE; 3]);
     assert_eq!(row(8, vec![0, 0]), (1, 0));
@@ -96,55 +109,57 @@ fn an_operation_in_an_area_of_a_given_length() {
         patches.iter().chain(&[(1, 1)]).for_each(|(place, byte)| area[*place] = *byte);
         (0, checksum(&area))
     };
-    for (objects, needed) in [(0, 1_728), (96, 1_728), (97, 3_360), (192, 3_360)] {
-        for length in [0, 1_727, 1_728, 1_729, 3_359, 3_360, 3_361, 4_096] {
+    for (objects, needed) in [(0, SMALL_AREA), (96, SMALL_AREA), (97, WIDE_AREA), (192, WIDE_AREA)] {
+        for length in LENGTHS {
             let expected = if length == needed { created(length, &[]) } else { (7, 0) };
             assert_eq!(row(9, operated(&plain_line(objects), length, &[])), expected, "{objects} {length}");
         }
     }
-    // One byte in record N + 1, in the last record, in the last byte; and in the last object's contents.
+    // One byte in record N + 1, in the last record, in a lock byte; and in the last object's contents.
     for objects in [97, 191] {
-        for place in [96 + 17 * objects, 112 + 17 * objects, 3_343, 3_359] {
-            let expected = (9, checksum(&[vec![0; place], vec![5], vec![0; 3_359 - place]].concat()));
-            assert_eq!(row(9, operated(&plain_line(objects), 3_360, &[(place, 5)])), expected, "{objects} {place}");
+        for place in [96 + 17 * objects, 112 + 17 * objects, WIDE_LOCKS - 17, WIDE_LOCKS - 1, WIDE_LOCKS, WIDE_AREA - 1]
+        {
+            let expected = (9, checksum(&[vec![0; place], vec![5], vec![0; WIDE_AREA - 1 - place]].concat()));
+            assert_eq!(row(9, operated(&plain_line(objects), WIDE_AREA, &[(place, 5)])), expected, "{objects} {place}");
         }
         let free = [(95 + 17 * objects, 255)];
-        assert_eq!(row(9, operated(&plain_line(objects), 3_360, &free)), created(3_360, &free));
+        assert_eq!(row(9, operated(&plain_line(objects), WIDE_AREA, &free)), created(WIDE_AREA, &free));
     }
     assert_eq!(
-        row(9, operated(&plain_line(0), 1_728, &[(1, 2)])),
-        (14, checksum(&[vec![0, 2], vec![0; 1_726]].concat()))
+        row(9, operated(&plain_line(0), SMALL_AREA, &[(1, 2)])),
+        (14, checksum(&[vec![0, 2], vec![0; SMALL_AREA - 2]].concat()))
     );
-    assert_eq!(row(9, operated(&plain_line(193), 3_360, &[])), (3, 0));
+    assert_eq!(row(9, operated(&plain_line(193), WIDE_AREA, &[])), (3, 0));
 }
 
 #[test]
 fn cases_that_are_none() {
-    let whole = operated(&plain_line(3), 1_728, &[(2, 1)]);
+    let whole = operated(&plain_line(3), SMALL_AREA, &[(2, 1)]);
     let cut = |length: usize| (9, whole[..length].to_vec());
     let cases: Vec<(u8, Vec<u8>)> = (0..whole.len()).map(cut).collect();
     for (length, found) in rows(&cases).into_iter().enumerate() {
         // Whole up to the area's length, without a patch.
-        let expected = if length == 2 + 14 + 2 { (0, checksum(&[vec![0, 1], vec![0; 1_726]].concat())) } else { NONE };
+        let expected =
+            if length == 2 + 14 + 2 { (0, checksum(&[vec![0, 1], vec![0; SMALL_AREA - 2]].concat())) } else { NONE };
         assert_eq!(found, expected, "{length} bytes");
     }
     let others = [
         (9, operated(&file_l(), 4_097, &[])),
-        (9, operated(&file_l(), 1_728, &[(1_728, 1)])),
+        (9, operated(&file_l(), SMALL_AREA, &[(SMALL_AREA, 1)])),
         (9, operated(&file_l(), 0, &[(0, 0)])),
         (0, vec![]),
-        (14, operated(&file_l(), 1_728, &[])),
+        (14, operated(&file_l(), SMALL_AREA, &[])),
     ];
     assert_eq!(rows(&others), [NONE; 5]);
 }
 
 /// A record after its length, then a file and an area.
 fn with_record(record: &[u8], line: &[u8], patches: &[(usize, u8)]) -> Vec<u8> {
-    [&two(record.len())[..], record, &operated(line, 1_728, patches)].concat()
+    [&two(record.len())[..], record, &operated(line, SMALL_AREA, patches)].concat()
 }
 
 fn area_with(patches: &[(usize, u8)]) -> Vec<u8> {
-    let mut area = vec![0; 1_728];
+    let mut area = vec![0; SMALL_AREA];
     patches.iter().for_each(|(place, byte)| area[*place] = *byte);
     area
 }
@@ -175,22 +190,26 @@ fn the_first_bad_record_and_the_answer_to_an_empty_record() {
     let last = |objects: usize| 95 + 17 * objects;
     // L fresh: the values of its hardcoded descriptors stand in the records 1 and 3.
     let fresh = [(97, 1), (131, 2)];
-    let with = |patch: (usize, u8)| operated(&file_l(), 1_728, &[&fresh[..], &[patch]].concat());
+    let with = |patch: (usize, u8)| operated(&file_l(), SMALL_AREA, &[&fresh[..], &[patch]].concat());
     let cases = [
-        (operated(&file_l(), 1_728, &fresh), (0, 10)),
-        (operated(&file_l(), 1_728, &fresh[..1]), (3, 9)),
-        (operated(&file_l(), 1_728, &[]), (1, 9)),
+        (operated(&file_l(), SMALL_AREA, &fresh), (0, 10)),
+        (operated(&file_l(), SMALL_AREA, &fresh[..1]), (3, 9)),
+        (operated(&file_l(), SMALL_AREA, &[]), (1, 9)),
         (with((0, 1)), (0, 9)),
         (with((66, 1)), (0, 9)),
         (with((198, 1)), (7, 9)),
-        (with((1_727, 1)), (96, 9)),
+        (with((SMALL_LOCKS - 1, 1)), (96, 9)),
+        (with((SMALL_LOCKS, 1)), (0, 10)),
+        (with((SMALL_LOCKS, 2)), (0, 9)),
+        (with((SMALL_LOCKS + 2, 1)), (0, 9)),
+        (with((SMALL_AREA - 1, 1)), (0, 9)),
         (with((97, 2)), (1, 9)),
-        (operated(&plain_line(96), 1_728, &[(last(96), 7)]), (0, 10)),
-        (operated(&plain_line(97), 3_360, &[(last(97), 7)]), (0, 10)),
-        (operated(&plain_line(97), 3_360, &[(last(192), 7), (last(98), 7)]), (98, 9)),
-        (operated(&plain_line(191), 3_360, &[(last(192), 7)]), (192, 9)),
-        (operated(&plain_line(97), 1_728, &[(last(96), 7)]), (REFUSED + 7, 7)),
-        (operated(&plain_line(96), 3_360, &[]), (REFUSED + 7, 7)),
+        (operated(&plain_line(96), SMALL_AREA, &[(last(96), 7)]), (0, 10)),
+        (operated(&plain_line(97), WIDE_AREA, &[(last(97), 7)]), (0, 10)),
+        (operated(&plain_line(97), WIDE_AREA, &[(last(192), 7), (last(98), 7)]), (98, 9)),
+        (operated(&plain_line(191), WIDE_AREA, &[(last(192), 7)]), (192, 9)),
+        (operated(&plain_line(97), SMALL_AREA, &[(last(96), 7)]), (REFUSED + 7, 7)),
+        (operated(&plain_line(96), WIDE_AREA, &[]), (REFUSED + 7, 7)),
         (operated(&plain_line(96), 4_096, &[]), (REFUSED + 7, 7)),
         (operated(&file_l(), 0, &[]), (REFUSED + 7, 7)),
         (operated(&plain_line(193), 0, &[]), (REFUSED + 3, 3)),
@@ -200,8 +219,8 @@ fn the_first_bad_record_and_the_answer_to_an_empty_record() {
     assert_eq!(rows(&cases), expected);
     let none = [
         operated(&file_l(), 4_097, &[]),
-        operated(&file_l(), 1_728, &[(1_728, 1)]),
-        operated(&file_l(), 1_728, &[(5, 1)])[..51].to_vec(),
+        operated(&file_l(), SMALL_AREA, &[(SMALL_AREA, 1)]),
+        operated(&file_l(), SMALL_AREA, &[(5, 1)])[..51].to_vec(),
         file_l(),
         vec![],
     ];
@@ -212,7 +231,8 @@ fn the_first_bad_record_and_the_answer_to_an_empty_record() {
 fn the_length_of_a_state_area() {
     let lines = [plain_line(0), plain_line(96), plain_line(97), plain_line(192), plain_line(193), vec![], file_l()];
     let cases = lines.map(|line| (10, line));
-    let answers = [1_728, 1_728, 3_360, 3_360, REFUSED + 3, REFUSED + 1, 1_728];
+    let (small, wide) = (SMALL_AREA as u64, WIDE_AREA as u64);
+    let answers = [small, small, wide, wide, REFUSED + 3, REFUSED + 1, small];
     assert_eq!(rows(&cases), answers.map(|answer| (answer, 0)));
 }
 

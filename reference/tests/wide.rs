@@ -2,7 +2,7 @@
 
 mod common;
 
-use common::{Desk, file_l};
+use common::{Desk, SMALL_AREA, WIDE_AREA, file_l};
 use reference::config::load;
 use reference::generate::lengths::{EDGES, LONGEST_AREA, areas, cuts, plain_line, wide_worlds};
 use reference::generate::{Call, Function, Rng};
@@ -30,7 +30,7 @@ fn answer(call: &Call) -> u32 {
 
 #[test]
 fn the_table_of_lengths() {
-    let lengths = [1_727, 1_728, 1_729, 3_359, 3_360, 3_361];
+    let lengths = [SMALL_AREA - 1, SMALL_AREA, SMALL_AREA + 1, WIDE_AREA - 1, WIDE_AREA, WIDE_AREA + 1];
     let rows = [(0, [7, 0, 7, 7, 7, 7]), (96, [7, 0, 7, 7, 7, 7]), (97, [7, 7, 7, 7, 0, 7]), (192, [7, 7, 7, 7, 0, 7])];
     for (objects, answers) in rows {
         let line = plain_line(objects);
@@ -51,7 +51,7 @@ fn the_table_of_lengths() {
 
 #[test]
 fn areas_of_every_length() {
-    for (objects, needed) in EDGES.into_iter().zip([1_728, 1_728, 3_360, 3_360]) {
+    for (objects, needed) in EDGES.into_iter().zip([SMALL_AREA, SMALL_AREA, WIDE_AREA, WIDE_AREA]) {
         let calls: Vec<Call> = areas(&mut Rng::new(1), objects).collect();
         assert_eq!((calls.len(), calls[calls.len() - 1].state.len()), (2 * LONGEST_AREA + 2, 4_096));
         for call in calls {
@@ -70,7 +70,7 @@ fn a_file_comes_before_the_areas_length() {
         ([plain_line(192), vec![0]].concat(), 4),
     ];
     for (line, number) in refused {
-        for length in [0, 1_728, 3_360, 4_096] {
+        for length in [0, SMALL_AREA, WIDE_AREA, 4_096] {
             assert_eq!(fresh(&line, &mut vec![0; length]), number);
             assert_eq!(operate(&line, &mut vec![0; length], &[5, 1], &mut [0; 128]), number);
         }
@@ -81,9 +81,10 @@ fn a_file_comes_before_the_areas_length() {
 #[test]
 fn state_bytes_tells_the_length_or_the_question() {
     for objects in 0..=192 {
-        assert_eq!(state_bytes(&plain_line(objects)), if objects <= 96 { 1_728 } else { 3_360 }, "{objects}");
+        let needed = if objects <= 96 { SMALL_AREA } else { WIDE_AREA };
+        assert_eq!(state_bytes(&plain_line(objects)), needed as u64, "{objects}");
     }
-    assert_eq!(state_bytes(&file_l()), 1_728);
+    assert_eq!(state_bytes(&file_l()), SMALL_AREA as u64);
     assert_eq!(state_bytes(&[]), REFUSED + 1);
     assert_eq!(state_bytes(&[129, 0]), REFUSED + 2);
     assert_eq!(state_bytes(&[2]), REFUSED + 3);
@@ -129,7 +130,7 @@ fn wide_files_cut_anywhere() {
         for call in cuts(&world) {
             let whole = call.line == world.line;
             assert_eq!(answer(&call), u32::from(!whole), "{} of {} bytes", call.line.len(), world.line.len());
-            assert_eq!(state_bytes(&call.line), if whole { 3_360 } else { REFUSED + 1 });
+            assert_eq!(state_bytes(&call.line), if whole { WIDE_AREA as u64 } else { REFUSED + 1 });
         }
     }
 }
@@ -174,7 +175,7 @@ fn records_name_objects_by_two_bytes() {
     assert_eq!(desk.record(&[9, 1, 1, 192, 1]), 0);
     assert_eq!((desk.state[at(192)], desk.state[at(64)]), (1, 1));
     assert_eq!(desk.record(&[&[1, 1, 1, 192, 1, 1][..], &[7; 16]].concat()), 0);
-    assert_eq!((&desk.state[at(192) + 1..], desk.state[at(64) + 1]), (&[7; 16][..], 0));
+    assert_eq!((&desk.state[at(192) + 1..at(193)], desk.state[at(64) + 1]), (&[7; 16][..], 0));
     desk.accept(&[&[1, 1, 1, 2, 0, 2], &[2, 1, 1, 191, 0, 2], &[4, 1, 2, 191, 0, 192, 0]]);
     assert_eq!((desk.state[at(191) + 1], desk.state[at(63) + 1]), (2, 0));
     assert_eq!((desk.answer[0], &desk.answer[16..32]), (2, &[7; 16][..]));
@@ -227,13 +228,13 @@ fn offsets_are_the_same_in_both_areas() {
 fn absent_records_of_the_wide_area() {
     for objects in [97, 128, 191, 192] {
         let line = plain_line(objects);
-        for place in at(objects + 1)..3_360 {
-            let mut area = vec![0; 3_360];
+        for place in at(objects + 1)..WIDE_AREA {
+            let mut area = vec![0; WIDE_AREA];
             area[place] = 1;
             assert_eq!(operate(&line, &mut area, &[5, 1], &mut [0; 128]), 9, "{objects} objects, byte {place}");
         }
         // The last object's own record: its contents are free.
-        let mut area = vec![0; 3_360];
+        let mut area = vec![0; WIDE_AREA];
         area[at(objects) + 16] = 255;
         assert_eq!(operate(&line, &mut area, &[5, 1], &mut [0; 128]), 0, "{objects} objects");
     }

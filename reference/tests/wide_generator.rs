@@ -1,6 +1,9 @@
 //! What the generator gives of wide configurations (request N2): their share, chains and records with numbers of two
 //! bytes, areas of both lengths for lines of both kinds, broken in the records that small configurations have not.
 
+mod common;
+
+use common::{SMALL_AREA, WIDE_AREA, WIDE_LOCKS};
 use reference::closure::{closure, crosses};
 use reference::coverage::chains::shortest;
 use reference::effect;
@@ -128,7 +131,7 @@ fn run(call: &Call) -> (u32, Vec<u8>) {
 /// areas of both lengths and of others; every number for both kinds.
 #[test]
 fn calls_give_areas_of_both_lengths_to_lines_of_both_kinds() {
-    let mut calls = Calls::new(4);
+    let mut calls = Calls::new(5);
     let mut answers: Counts<(bool, u32)> = BTreeMap::new();
     let mut lengths: Counts<(bool, usize)> = BTreeMap::new();
     let (mut sessions, mut wide) = (0, 0);
@@ -148,7 +151,11 @@ fn calls_give_areas_of_both_lengths_to_lines_of_both_kinds() {
     assert!(wide * 8 >= sessions, "{wide} of {sessions}");
     let often = |counts: Option<&usize>| counts.is_some_and(|count| *count >= 10);
     assert!([0, 7, 8, 9].into_iter().chain(10..=21).all(|number| often(answers.get(&(true, number)))), "{answers:?}");
-    for key in [(false, 3_360), (false, 1_727), (false, 1_729), (true, 1_728), (true, 3_359), (true, 3_361)] {
+    for key in [(false, WIDE_AREA), (false, SMALL_AREA - 1), (false, SMALL_AREA + 1)].into_iter().chain([
+        (true, SMALL_AREA),
+        (true, WIDE_AREA - 1),
+        (true, WIDE_AREA + 1),
+    ]) {
         assert!(lengths.contains_key(&key), "{key:?} {lengths:?}");
     }
 }
@@ -172,7 +179,11 @@ fn widened_files_are_accepted_cut_and_refused() {
 fn set_behind(config: &Config, area: &[u8]) -> [bool; 3] {
     let first = 96 + 17 * config.objects.len();
     let is_set = |bytes: Option<&[u8]>| bytes.is_some_and(|bytes| bytes.iter().any(|byte| *byte != 0));
-    [is_set(area.get(first..first + 17)), is_set(area.get(3_343..)), is_set(area.get(3_359..))]
+    [
+        is_set(area.get(first..first + 17)),
+        is_set(area.get(WIDE_LOCKS - 17..WIDE_LOCKS)),
+        is_set(area.get(WIDE_AREA - 1..)),
+    ]
 }
 
 #[test]
@@ -182,7 +193,7 @@ fn wide_areas_are_broken_behind_the_last_object() {
     for _ in 0..600 {
         let world = world(&mut rng, Size::Wide);
         let area = areas::broken(&mut rng, &world.config, &State::fresh(&world.config));
-        assert_eq!(area.len(), 3_360);
+        assert_eq!(area.len(), WIDE_AREA);
         // With many absent objects, so that neither record is likely to be the one by chance.
         if world.config.objects.len() <= 128 {
             set_behind(&world.config, &area).iter().zip(&mut seen).for_each(|(set, sum)| *sum += usize::from(*set));

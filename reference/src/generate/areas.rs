@@ -3,7 +3,7 @@
 
 use super::rng::Rng;
 use crate::config::{Config, Kind, Owner};
-use crate::limits::{MAX_DEVICES, MAX_DRIVERS, MAX_PARTITION, RECORD_BYTES, area_bytes};
+use crate::limits::{MAX_DEVICES, MAX_DRIVERS, MAX_PARTITION, RECORD_BYTES, record_place};
 use crate::state::{DESTROYED, EXISTING, GREEN, NEVER_USED, NONE, State, exists, holding};
 
 /// The least status that there is not.
@@ -27,10 +27,10 @@ pub fn broken(rng: &mut Rng, config: &Config, state: &State) -> Vec<u8> {
 
 /// Sets a byte: in the record behind the last object's, in the last record, at the end, or anywhere.
 fn broken_at(rng: &mut Rng, config: &Config, area: &mut [u8], place: usize) {
-    let behind_objects = area_bytes(config.objects.len());
+    let (objects, room) = (config.objects.len(), config.room());
     let (from, length) = match place {
-        0 if behind_objects < area.len() => (behind_objects, RECORD_BYTES),
-        0 | 1 => (area.len() - RECORD_BYTES, RECORD_BYTES),
+        0 if objects < room => (record_place(objects + 1), RECORD_BYTES),
+        0 | 1 => (record_place(room), RECORD_BYTES),
         2 => (area.len() - 1, 1),
         _ => (0, area.len()),
     };

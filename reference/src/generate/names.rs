@@ -40,7 +40,7 @@ pub fn names(operation: &mut Operation) -> Vec<(Name, &mut usize)> {
         }
         Operation::Create { partition, .. } | Operation::Destroy { partition } => (None, Some(partition), None),
         Operation::Activate { actor, partition } => (Some(actor), Some(partition), None),
-        Operation::Deactivate { actor } => (Some(actor), None, None),
+        Operation::Deactivate { actor } | Operation::Lock { actor, .. } => (Some(actor), None, None),
         Operation::ActivateExternal { partition, objects } | Operation::DeactivateExternal { partition, objects } => {
             (None, Some(partition), Some(objects))
         }

@@ -44,11 +44,14 @@ impl Want {
     }
 }
 
-/// The judgement by which a world's records are chosen. Over a world without green zones code 13 is no code, as it was
-/// when the first sessions were stored: these are to stay as they are.
+/// The judgement by which a world's records are chosen. Over a world without green zones code 13 is no code, and codes
+/// 14 and 15 are none, as it was when the first sessions were stored: these are to stay as they are.
 pub fn judgement(world: &World, state: &State, record: &[u8]) -> Judgement {
-    let is_green = || operation::read(record).is_some_and(|operation| operation.code() == 13);
-    if world.greens.is_empty() && is_green() { Err(10) } else { judge(closure, &world.config, state, record) }
+    match operation::read(record).map(|operation| operation.code()) {
+        Some(13) if world.greens.is_empty() => Err(10),
+        Some(14 | 15) => Err(10),
+        _ => judge(closure, &world.config, state, record),
+    }
 }
 
 /// A record for this state.

@@ -25,7 +25,7 @@ pub struct Stored {
 pub struct Tally {
     pub cases: usize,
     /// Refused files and rows, by number.
-    pub numbers: [usize; 23],
+    pub numbers: [usize; 24],
     pub cut: usize,
     pub long: usize,
     pub silent: usize,

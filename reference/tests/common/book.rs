@@ -2,6 +2,7 @@
 //! library's state and effect: records are taken apart here by hand, offsets are written out. In an accepted record
 //! only objects can have numbers of two bytes, because everything that it names exists.
 
+use super::{SMALL_AREA, SMALL_LOCKS, WIDE_AREA, WIDE_LOCKS};
 use reference::config::{Config, Kind, Owner};
 
 pub struct Book {
@@ -11,6 +12,7 @@ pub struct Book {
     cards: [u8; 17],
     partitions: [u8; 193],
     contents: [[u8; 16]; 193],
+    locks: [u8; 17],
 }
 
 /// The object that a record names here, and what stands behind it.
@@ -42,6 +44,7 @@ impl Book {
             cards: [0; 17],
             partitions: [0; 193],
             contents: [[0; 16]; 193],
+            locks: [0; 17],
         };
         for (place, object) in file.objects.iter().enumerate() {
             if let (Kind::Hardcoded, Owner::Device(card)) = (object.kind, object.owner) {
@@ -68,6 +71,8 @@ impl Book {
             9 => objects(&record[3..]).iter().for_each(|object| self.move_object(*object, record[1], true)),
             10 => self.move_driver(first, 0, false),
             11 => self.move_card(first, 0, false),
+            14 => self.locks[first] = 1,
+            15 => self.locks[first] = 0,
             _ => objects(&record[3..]).iter().for_each(|object| self.move_object(*object, 0, false)),
         }
     }
@@ -122,9 +127,10 @@ impl Book {
         }
     }
 
-    /// What a state area shows: room for 96 objects, or for 192 where there are more.
+    /// What a state area shows: room for 96 objects, or for 192 where there are more, and sixteen locks behind it.
     pub fn area(&self) -> Vec<u8> {
-        let (length, room) = if self.file.objects.len() > 96 { (3_360, 192) } else { (1_728, 96) };
+        let wide = self.file.objects.len() > 96;
+        let (length, room, locks) = if wide { (WIDE_AREA, 192, WIDE_LOCKS) } else { (SMALL_AREA, 96, SMALL_LOCKS) };
         let mut area = vec![0; length];
         area[..64].copy_from_slice(&self.standings);
         area[64..80].copy_from_slice(&self.drivers[1..]);
@@ -134,6 +140,7 @@ impl Book {
             area[place] = self.partitions[object];
             area[place + 1..place + 17].copy_from_slice(&self.contents[object]);
         }
+        area[locks..].copy_from_slice(&self.locks[1..]);
         area
     }
 
@@ -145,6 +152,15 @@ impl Book {
 
     pub fn is_cleared(&self, object: usize) -> bool {
         self.file.objects[object - 1].kind == Kind::Hardcoded || self.contents[object] == [0; 16]
+    }
+
+    pub fn is_locked(&self, card: usize) -> bool {
+        self.locks[card] == 1
+    }
+
+    /// The partition of a card.
+    pub fn card(&self, card: usize) -> u8 {
+        self.cards[card]
     }
 
     pub fn copied(&self) -> Book {

@@ -7,6 +7,13 @@ use reference::limits::ANSWER_BYTES;
 use reference::tokens::row;
 use reference::{fresh, load, operate};
 
+/// The lengths of state areas, written out here once: for at most 96 objects, and for more. Both were sixteen bytes
+/// shorter before there were locks (request N6); the lock bytes begin there.
+pub const SMALL_AREA: usize = 1_744;
+pub const WIDE_AREA: usize = 3_376;
+pub const SMALL_LOCKS: usize = 1_728;
+pub const WIDE_LOCKS: usize = 3_360;
+
 /// File L of document 01, 45 bytes.
 pub fn file_l() -> Vec<u8> {
     let counts = [1, 2, 2, 6, 5];
