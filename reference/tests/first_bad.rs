@@ -281,11 +281,12 @@ fn damaged_lines(seed: u64, count: u64) -> impl Iterator<Item = Line> {
 fn damaged_areas_have_their_first_bad_record_where_they_say() {
     for Line { config, line, areas } in damaged_lines(24, 100) {
         assert_eq!(load(&line).as_ref(), Ok(&config));
-        for Damaged { name, state, place, head_fits } in areas {
-            let answer = if place == 0 && head_fits { 10 } else { 9 };
+        for Damaged { name, state, place, head_fits, locks_fit } in areas {
+            let answer = if place == 0 && head_fits && locks_fit { 10 } else { 9 };
             assert_eq!(found(&line, &state.to_bytes()), (place as u64, answer), "{name}");
             assert_eq!(well_formed(&config, &state), answer == 10, "{name}");
             assert_eq!(state::head_fits(&config, &state), head_fits, "{name}");
+            assert_eq!(state::locks_fit(&config, &state), locks_fit, "{name}");
         }
     }
 }
@@ -333,6 +334,12 @@ fn every_rule_is_broken_at_every_place_of_both_rooms() {
     let owners = ways.into_iter().flat_map(|way| ["driver", "device"].map(|owner| format!("a {owner} {way}")));
     ["nothing"].into_iter().chain(alone).for_each(|name| often(name, "any"));
     status.into_iter().chain(owners).for_each(|name| often(&name, "any"));
+    for place in ["the first", "the last", "any"] {
+        ["an active", "an absent"].iter().for_each(|who| often(&format!("a lock of {who} device, {place}"), "any"));
+        for who in ["an active", "an inactive", "an absent"] {
+            often(&format!("a byte that is no lock, of {who} device, {place}"), "any");
+        }
+    }
 }
 
 #[test]

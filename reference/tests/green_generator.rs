@@ -52,10 +52,10 @@ fn worlds_have_green_zones_beside_others() {
 #[derive(Debug, Default)]
 struct Seen {
     /// Answers 22 by code, in states that calls reach and in others.
-    reached: [usize; 14],
-    unreached: [usize; 14],
+    reached: [usize; 16],
+    unreached: [usize; 16],
     /// Accepted calls by code.
-    accepted: [usize; 14],
+    accepted: [usize; 16],
     /// Refusals by 20's stricter part alone.
     strict: usize,
     /// Calls that tell each fault that no session notices.

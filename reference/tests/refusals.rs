@@ -282,7 +282,7 @@ fn code_13_needs_a_partition_that_was_never_used() {
 #[test]
 fn refusals_change_nothing_in_generated_calls() {
     let mut calls = Calls::new(11);
-    let mut seen = [0; 23];
+    let mut seen = [0; 24];
     for _ in 0..20_000 {
         let call = calls.next_call();
         let (number, state, answer) = run(&call);

@@ -1,11 +1,12 @@
 //! State areas of both lengths: what length each file needs, in the answers of both; areas of every length for
-//! configurations of both kinds; files of wide configurations, cut at every byte.
+//! configurations of both kinds, and of those around the lengths of before there were locks and of now with locks in
+//! them; lock bytes of every value; files of wide configurations, cut at every byte.
 
 use crate::walks::Walks;
 use crate::{agreed, hex, library};
-use reference::generate::lengths::{EDGES, areas, cuts, wide_worlds};
+use reference::generate::lengths::{EDGES, LOCKABLE, areas, cuts, lock_bytes, lock_lengths, wide_worlds};
 use reference::generate::{Call, Rng};
-use reference::limits::{STATE_BYTES, STATE_BYTES_WIDE};
+use reference::limits::{STATE_BYTES, STATE_BYTES_WIDE, locks_place};
 use reference::{load, state_bytes};
 
 /// The question about a state area's length.
@@ -23,15 +24,17 @@ pub struct Lengths {
     last: Vec<u8>,
     files: u64,
     answers: [u64; ANSWERS],
-    /// Sessions over small configurations, and over wide ones; and refusals by 7 of each.
+    /// Sessions over small configurations, and over wide ones; refusals by 7 of each, and those of them of areas that
+    /// have the length of before there were locks.
     sessions: [u64; 2],
     refused: [u64; 2],
+    older: [u64; 2],
 }
 
 impl Lengths {
     pub fn new() -> Lengths {
         let (last, files, answers) = (Vec::new(), 0, [0; ANSWERS]);
-        Lengths { last, files, answers, sessions: [0; 2], refused: [0; 2] }
+        Lengths { last, files, answers, sessions: [0; 2], refused: [0; 2], older: [0; 2] }
     }
 
     /// Whether both tell the same length for a file, or refuse it by the same question.
@@ -53,15 +56,22 @@ impl Lengths {
         here == there
     }
 
-    /// Whether both do the same in areas of every length, and with wide files that are cut anywhere.
+    /// Whether both do the same in areas of every length, with lock bytes of every value, and with wide files that are
+    /// cut anywhere.
     pub fn agree_on_all(&mut self, seed: u64, walks: &mut Walks) -> bool {
         let mut rng = Rng::part(seed, 2);
         let mut same = |lengths: &mut Lengths, call: Call| {
-            agreed(format_args!("an area of any length, or a file cut anywhere"), &call).is_some()
-                && lengths.agree(&call.line)
-                && walks.agree(&call.line, &call.state)
+            let outcome = agreed(format_args!("an area of any length, a lock byte, or a file cut anywhere"), &call);
+            outcome.is_some_and(|outcome| {
+                lengths.count(&call, outcome.number);
+                lengths.agree(&call.line) && walks.agree(&call.line, &call.state)
+            })
         };
         EDGES.into_iter().all(|objects| areas(&mut rng, objects).all(|call| same(self, call)))
+            && LOCKABLE.into_iter().all(|(devices, objects)| {
+                let calls = [lock_lengths(&mut rng, devices, objects), lock_bytes(&mut rng, devices, objects)];
+                calls.concat().into_iter().all(|call| same(self, call))
+            })
             && wide_worlds(&mut rng).iter().all(|world| cuts(world).all(|call| same(self, call)))
     }
 
@@ -76,6 +86,7 @@ impl Lengths {
             && let Ok(config) = load(&call.line)
         {
             self.refused[kind(config.is_wide())] += 1;
+            self.older[kind(config.is_wide())] += u64::from(call.state.len() == locks_place(config.room()));
         }
     }
 
@@ -84,6 +95,7 @@ impl Lengths {
         (0..ANSWERS).for_each(|place| println!("{:>14} {}", name(place), self.answers[place]));
         println!("sessions over small configurations {}, over wide ones {}", self.sessions[SMALL], self.sessions[WIDE]);
         println!("refused by 7 of small configurations {}, of wide ones {}", self.refused[SMALL], self.refused[WIDE]);
+        println!("of these in areas of before there were locks {}, {}", self.older[SMALL], self.older[WIDE]);
     }
 
     /// What never occurred.
@@ -95,6 +107,8 @@ impl Lengths {
             ("a wide configuration", self.sessions[WIDE]),
             ("7 of a small configuration", self.refused[SMALL]),
             ("7 of a wide configuration", self.refused[WIDE]),
+            ("7 of a small area of before there were locks", self.older[SMALL]),
+            ("7 of a wide area of before there were locks", self.older[WIDE]),
         ];
         let kinds = counts.into_iter().filter(|(_, count)| *count == 0).map(|(name, _)| name.to_string());
         answers.chain(kinds).collect()

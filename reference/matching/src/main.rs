@@ -21,8 +21,8 @@ use walks::Walks;
 
 const USAGE: &str = "usage: matching [--calls N] [--seed S]";
 
-/// The numbers that a call can answer: 0 to 22.
-const NUMBERS: usize = 23;
+/// The numbers that a call can answer: 0 to 23.
+const NUMBERS: usize = 24;
 
 fn main() -> ExitCode {
     match options() {

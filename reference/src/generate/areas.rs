@@ -3,15 +3,15 @@
 
 use super::rng::Rng;
 use crate::config::{Config, Kind, Owner};
-use crate::limits::{MAX_DEVICES, MAX_DRIVERS, MAX_PARTITION, RECORD_BYTES, record_place};
-use crate::state::{DESTROYED, EXISTING, GREEN, NEVER_USED, NONE, State, exists, holding};
+use crate::limits::{LOCK_BYTES, MAX_DEVICES, MAX_DRIVERS, MAX_PARTITION, RECORD_BYTES, locks_place, record_place};
+use crate::state::{DESTROYED, EXISTING, GREEN, LOCKED, NEVER_USED, NONE, State, UNLOCKED, exists, holding};
 
 /// The least status that there is not.
 pub(super) const NO_STATUS: u8 = GREEN + 1;
 
 /// How many ways `broken_by` knows, and how many `broken_at`.
-const RULES: usize = 14;
-const PLACES: usize = 4;
+const RULES: usize = 17;
+const PLACES: usize = 5;
 
 /// The state with one byte, or one record, that likely breaks a rule of question 9.
 pub fn broken(rng: &mut Rng, config: &Config, state: &State) -> Vec<u8> {
@@ -25,13 +25,14 @@ pub fn broken(rng: &mut Rng, config: &Config, state: &State) -> Vec<u8> {
     area
 }
 
-/// Sets a byte: in the record behind the last object's, in the last record, at the end, or anywhere.
+/// Sets a byte: in the record behind the last object's, in the last record, in a lock, at the end, or anywhere.
 fn broken_at(rng: &mut Rng, config: &Config, area: &mut [u8], place: usize) {
     let (objects, room) = (config.objects.len(), config.room());
     let (from, length) = match place {
         0 if objects < room => (record_place(objects + 1), RECORD_BYTES),
         0 | 1 => (record_place(room), RECORD_BYTES),
-        2 => (area.len() - 1, 1),
+        2 => (locks_place(room), LOCK_BYTES),
+        3 => (area.len() - 1, 1),
         _ => (0, area.len()),
     };
     area[from + rng.below(length)] = rng.between(1, 255) as u8;
@@ -68,7 +69,27 @@ fn broken_by(rng: &mut Rng, config: &Config, state: &mut State, rule: usize) {
             let zone = rng.pick(&used).unwrap_or(1);
             state.status[usize::from(zone)] = [NEVER_USED, DESTROYED, NO_STATUS][rng.below(3)];
         }
+        14 => state.locks[some_device(rng, MAX_DEVICES) - 1] = rng.between(2, 255) as u8,
+        15 if config.devices() < MAX_DEVICES => {
+            let device = [config.devices() + 1, MAX_DEVICES, rng.between(config.devices() + 1, MAX_DEVICES)];
+            state.locks[device[rng.below(3)] - 1] = LOCKED;
+        }
+        16 => lock_of_active(rng, config, state),
         _ => (),
+    }
+}
+
+/// A device's number, often the first or the last.
+fn some_device(rng: &mut Rng, last: usize) -> usize {
+    [1, last, rng.between(1, last)][rng.below(3)]
+}
+
+/// Locks a device that is in a partition.
+fn lock_of_active(rng: &mut Rng, config: &Config, state: &mut State) {
+    let active: Vec<usize> = (1..=config.devices()).filter(|device| state.device(*device) != NONE).collect();
+    let ends = [active.first().copied(), active.last().copied(), rng.pick(&active)];
+    if let Some(device) = ends[rng.below(3)] {
+        state.locks[device - 1] = LOCKED;
     }
 }
 
@@ -117,7 +138,17 @@ fn descriptor(rng: &mut Rng, config: &Config, state: &mut State, change: impl Fn
     }
 }
 
-/// Any well formed state: partitions and contents at random.
+/// A state area of before there were locks (request N6): what it shows but the locks, sixteen bytes shorter.
+pub fn older(config: &Config, area: &[u8]) -> Vec<u8> {
+    area[..locks_place(config.room())].to_vec()
+}
+
+/// The area that an older one becomes, by zeros at its end.
+pub fn carried_over(older: &[u8]) -> Vec<u8> {
+    [older, &[UNLOCKED; LOCK_BYTES]].concat()
+}
+
+/// Any well formed state: partitions, contents and locks at random.
 pub fn scrambled(rng: &mut Rng, config: &Config) -> State {
     let mut state = State::fresh(config);
     for _ in 0..rng.between(1, 5) {
@@ -129,6 +160,12 @@ pub fn scrambled(rng: &mut Rng, config: &Config) -> State {
     };
     (0..config.drivers).for_each(|driver| state.drivers[driver] = place(rng, &state));
     (0..config.devices()).for_each(|device| state.devices[device] = place(rng, &state));
+    let locked = rng.below(80);
+    for device in 0..config.devices() {
+        if state.devices[device] == NONE && rng.percent(locked) {
+            state.locks[device] = LOCKED;
+        }
+    }
     let few = rng.percent(60);
     let read = |object: usize| config.hardcoded.iter().flat_map(|v| config.value(*v)).any(|e| e.object == object);
     for number in 1..=config.objects.len() {

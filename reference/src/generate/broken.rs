@@ -178,9 +178,20 @@ fn break_hardcoded(rng: &mut Rng, config: &mut Config) {
     }
 }
 
-/// Codes that nobody knows, and those of before there were green zones (request N5).
-pub const NO_CODES: [usize; 5] = [0, 14, 15, 128, 65_535];
-pub const NO_CODES_OF_BEFORE: [usize; 5] = [0, 13, 14, 128, 65_535];
+/// Codes that nobody knows, those of before there were locks (request N6), and those of before there were green zones
+/// (request N5).
+pub const NO_CODES: [usize; 5] = [0, 16, 17, 128, 65_535];
+const NO_CODES_BEFORE_LOCKS: [usize; 5] = [0, 14, 15, 128, 65_535];
+const NO_CODES_BEFORE_GREENS: [usize; 5] = [0, 13, 14, 128, 65_535];
+
+/// The codes that a world takes for unknown.
+pub fn no_codes(world: &World) -> [usize; 5] {
+    match (world.locks, world.greens.is_empty()) {
+        (true, _) => NO_CODES,
+        (false, false) => NO_CODES_BEFORE_LOCKS,
+        (false, true) => NO_CODES_BEFORE_GREENS,
+    }
+}
 
 /// A record that cannot be read, made from one that can (question 10).
 pub fn record(rng: &mut Rng, operation: &Operation, no_codes: [usize; 5]) -> Vec<u8> {

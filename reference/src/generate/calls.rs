@@ -1,17 +1,19 @@
 //! A stream of calls of the functions that judge: sessions with the state carried on, and between their calls others
-//! with malformed files, areas and records, which carry nothing on. Some sessions begin with a drill.
+//! with malformed files, areas and records, which carry nothing on. Some sessions begin with a drill, and at times the
+//! area is one of before there were locks, with sixteen zeros at its end, and carried on.
 
 use super::areas;
 use super::broken;
 use super::drills;
 use super::greens::greened;
 use super::likely::Scene;
+use super::locks::locking;
 use super::records::{self, Want};
 use super::rings::ringed;
 use super::rng::Rng;
 use super::worlds::{Size, World, world};
 use crate::config::load;
-use crate::limits::{ANSWER_BYTES, STATE_BYTES, STATE_BYTES_WIDE};
+use crate::limits::{ANSWER_BYTES, STATE_BYTES, STATE_BYTES_WIDE, locks_place};
 use crate::operation::Operation;
 use crate::state::State;
 use std::collections::VecDeque;
@@ -89,8 +91,8 @@ impl Calls {
             (self.world, self.drill) = (drill.world, drill.records.into());
         } else {
             let size = Size::any(&mut self.rng);
-            let green = self.rng.percent(55);
-            self.world = if green { greened(&mut self.rng, size) } else { ringed(&mut self.rng, size) };
+            let kinds = [ringed, greened, locking];
+            self.world = kinds[self.rng.weighted(&[30, 25, 45])](&mut self.rng, size);
         }
         self.operations = self.drill.len() + self.rng.between(5, 70) + self.world.config.objects.len();
         let line = self.world.line.clone();
@@ -140,13 +142,16 @@ impl Calls {
         self.rng.bytes(length)
     }
 
-    /// The area with another length than the session's file needs, often the one that other files need.
+    /// The area with another length than the session's file needs, often the one that other files need, or the one that
+    /// it had before there were locks.
     fn wrong_length(&mut self, area: &[u8]) -> Vec<u8> {
         let mut area = area.to_vec();
         let needed = self.world.config.state_bytes();
         let other = STATE_BYTES + STATE_BYTES_WIDE - needed;
         let near = [0, 1, needed - 1, needed + 1, 2 * needed, self.rng.below(needed)];
-        let lengths = [&near[..], &[other, other, other - 1, other + 1]].concat();
+        let before = locks_place(self.world.config.room());
+        let lengths =
+            [&near[..], &[other, other, other - 1, other + 1], &[before, before, before - 1, before + 1]].concat();
         area.resize(lengths[self.rng.below(lengths.len())], 0);
         area
     }
@@ -164,8 +169,12 @@ impl Calls {
         let want = Want::any(&mut self.rng, &self.world);
         let record = records::record(&mut self.rng, &self.world, &state, want);
         let mut call = Call { function: Function::Operate, line, state: area, record, answer, carried: false };
-        match self.rng.weighted(&[77, 3, 3, 6, 11]) {
+        match self.rng.weighted(&[73, 3, 3, 7, 11, 3]) {
             0 => call.carried = true,
+            5 => {
+                call.state = areas::carried_over(&areas::older(&self.world.config, &state.to_bytes()));
+                call.carried = true;
+            }
             1 => call.state = self.wrong_length(&call.state),
             2 => {
                 let length = [0, 1, 16, ANSWER_BYTES - 1][self.rng.below(4)];
@@ -188,7 +197,8 @@ impl Calls {
             let mut scene = Scene { rng: &mut self.rng, world: &self.world, state };
             return scene.likely_refused(number).to_bytes();
         }
-        let refused = Want::Refused([18, 19, 20, 21, 22][self.rng.below(5)]);
+        let refusals = if self.world.locks { &[18, 19, 20, 21, 22, 23][..] } else { &[18, 19, 20, 21, 22] };
+        let refused = Want::Refused(refusals[self.rng.below(refusals.len())]);
         let want = [Want::Accepted, refused, want][self.rng.weighted(&[20, 60, 20])];
         records::record(&mut self.rng, &self.world, state, want)
     }

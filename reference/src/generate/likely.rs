@@ -20,6 +20,9 @@ pub struct Scene<'a> {
 impl Scene<'_> {
     /// An operation that is likely accepted.
     pub fn likely(&mut self) -> Operation {
+        if let Some(operation) = self.perhaps_lock() {
+            return operation;
+        }
         let setup = self.setup();
         if !setup.is_empty() && self.rng.percent(60) {
             return setup[self.rng.below(setup.len())].clone();
@@ -48,7 +51,7 @@ impl Scene<'_> {
         let mut list: Vec<Operation> = unused.map(created).collect();
         list.extend(self.absent(&self.world.drivers, &self.state.drivers, Actor::Driver));
         let mut devices = self.absent(&self.world.devices, &self.state.devices, Actor::Device);
-        devices.retain(|operation| !self.is_ring_into_green(operation));
+        devices.retain(|operation| !self.is_ring_into_green(operation) && !self.is_locked_out(operation));
         list.extend(devices);
         for zone in &self.world.zones {
             let here = |object: &usize| self.world.objects[*object - 1] == *zone && self.state.object(*object) == NONE;
@@ -60,6 +63,11 @@ impl Scene<'_> {
         }
         self.rng.shuffle(&mut list);
         list
+    }
+
+    /// Whether an operation brings a locked device in, which 23 refuses.
+    fn is_locked_out(&self, operation: &Operation) -> bool {
+        matches!(operation.actor(), Some(Actor::Device(device)) if self.state.is_locked(device))
     }
 
     /// Activations of the inactive drivers, or devices, whose planned partition exists.

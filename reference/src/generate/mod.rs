@@ -10,6 +10,7 @@ pub mod drills;
 pub mod greens;
 pub mod lengths;
 pub mod likely;
+pub mod locks;
 pub mod memories;
 pub mod names;
 pub mod records;
@@ -23,6 +24,7 @@ pub mod worlds;
 
 pub use calls::{Call, Calls, Function};
 pub use greens::greened;
+pub use locks::locking;
 pub use records::Want;
 pub use rewrites::Rewrite;
 pub use rings::ringed;

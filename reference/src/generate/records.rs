@@ -19,6 +19,8 @@ const WITHOUT_RING: usize = 15;
 /// Those over a world with green zones.
 const GREEN_REFUSALS: [u8; 22] =
     [10, 11, 12, 13, 14, 14, 15, 16, 17, 18, 18, 19, 19, 19, 20, 20, 20, 21, 21, 22, 22, 22];
+/// How often 23 is wanted over a world whose sessions lock devices.
+const BY_LOCK: usize = 20;
 
 /// What a record is to be.
 #[derive(Clone, Copy, Debug, PartialEq, Eq)]
@@ -38,18 +40,20 @@ impl Want {
         };
         match rng.weighted(&[60, 28, 12]) {
             0 => Want::Accepted,
+            1 if world.locks && rng.percent(BY_LOCK) => Want::Refused(23),
             1 => Want::Refused(refusals[rng.below(refusals.len())]),
             _ => Want::Random,
         }
     }
 }
 
-/// The judgement by which a world's records are chosen. Over a world without green zones code 13 is no code, and codes
-/// 14 and 15 are none, as it was when the first sessions were stored: these are to stay as they are.
+/// The judgement by which a world's records are chosen. Over a world without green zones code 13 is no code, and over
+/// one without locks codes 14 and 15 are none, as it was when the first sessions were stored: these are to stay as they
+/// are.
 pub fn judgement(world: &World, state: &State, record: &[u8]) -> Judgement {
     match operation::read(record).map(|operation| operation.code()) {
         Some(13) if world.greens.is_empty() => Err(10),
-        Some(14 | 15) => Err(10),
+        Some(14 | 15) if !world.locks => Err(10),
         _ => judge(closure, &world.config, state, record),
     }
 }
@@ -78,8 +82,7 @@ fn proposed(rng: &mut Rng, world: &World, state: &State, wanted: u8) -> Vec<u8> 
         0 => scene.likely().to_bytes(),
         10 => {
             let operation = if scene.rng.percent(60) { scene.likely() } else { scene.anything() };
-            let codes = if world.greens.is_empty() { broken::NO_CODES_OF_BEFORE } else { broken::NO_CODES };
-            broken::record(scene.rng, &operation, codes)
+            broken::record(scene.rng, &operation, broken::no_codes(world))
         }
         _ => scene.likely_refused(wanted).to_bytes(),
     }

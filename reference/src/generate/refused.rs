@@ -8,7 +8,7 @@ use crate::operation::{Actor, Copying, Item, Operation, Put};
 use crate::state::{NONE, exists};
 
 impl Scene<'_> {
-    /// An operation that question `number`, 11 to 22, is likely to refuse.
+    /// An operation that question `number`, 11 to 23, is likely to refuse.
     pub fn likely_refused(&mut self, number: u8) -> Operation {
         match number {
             11 => self.with_unknown_name(),
@@ -22,6 +22,7 @@ impl Scene<'_> {
             19 => self.crossing(),
             20 => self.leaving(),
             21 => self.entering(),
+            23 => self.against_lock(),
             _ => self.against_green_rule(),
         }
     }
@@ -37,6 +38,9 @@ impl Scene<'_> {
 
     /// An operation of any code whose names are yet to be chosen.
     fn shape(&mut self) -> Operation {
+        if let Some(operation) = self.shape_of_lock() {
+            return operation;
+        }
         let actor = if self.rng.percent(50) { Actor::Driver(1) } else { Actor::Device(1) };
         let count = self.count();
         match self.rng.below(8) {
@@ -144,6 +148,9 @@ impl Scene<'_> {
             return Operation::Create { partition, green: self.perhaps_green() };
         }
         let gone: Vec<usize> = (1..=63).filter(|zone| !exists(self.state.status[*zone])).collect();
+        if let Some(operation) = gone.first().and_then(|partition| self.locked_into(*partition)) {
+            return operation;
+        }
         let mut operation = if self.rng.percent(60) { self.likely() } else { self.anything() };
         for (name, number) in names(&mut operation) {
             if name == Name::Partition {
@@ -155,6 +162,9 @@ impl Scene<'_> {
 
     /// Something active brought in again, or something inactive that acts or leaves.
     fn with_wrong_activity(&mut self) -> Operation {
+        if let Some(operation) = self.lock_of_active() {
+            return operation;
+        }
         let partition = self.existing();
         let operation = match self.rng.below(5) {
             0 => self.leave(Actor::Driver).or_else(|| self.leave(Actor::Device)),

@@ -2,6 +2,7 @@
 
 use super::broken;
 use super::greens::greened;
+use super::locks::locking;
 use super::records::{self, Want};
 use super::rings::ringed;
 use super::rng::Rng;
@@ -28,8 +29,14 @@ pub enum End {
 type Breaking = fn(&mut Rng, &World, u8) -> Vec<u8>;
 
 /// A folder of this size with about `records` records; `focus` is a number to see often. Some lines have rings, and all
-/// sessions green zones.
+/// sessions green zones and locks.
 pub fn folder(rng: &mut Rng, size: Size, records: usize, focus: Option<u8>) -> Folder {
+    let world = locking(rng, size);
+    folder_over(rng, &world, records, focus, broken::line)
+}
+
+/// The same without locks, as it was before there were any.
+pub fn folder_with_greens(rng: &mut Rng, size: Size, records: usize, focus: Option<u8>) -> Folder {
     let world = greened(rng, size);
     folder_over(rng, &world, records, focus, broken::line)
 }
@@ -62,7 +69,7 @@ pub fn session(rng: &mut Rng, world: &World, records: usize, focus: Option<u8>, 
     let mut out = Vec::new();
     for place in 0..records {
         let want = match focus {
-            Some(number @ 10..=22) if place * 2 > records && rng.percent(30) => Want::Refused(number),
+            Some(number @ 10..=23) if place * 2 > records && rng.percent(30) => Want::Refused(number),
             _ => Want::any(rng, world),
         };
         let record = records::record(rng, world, &state, want);

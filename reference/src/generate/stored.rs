@@ -5,7 +5,7 @@
 use super::corners::{corners, file_l, green_corners, ring_corners};
 use super::drills::{self, Point};
 use super::rng::Rng;
-use super::sessions::{Folder, folder, folder_of_before, folder_with_rings};
+use super::sessions::{Folder, folder_of_before, folder_with_greens, folder_with_rings};
 use super::worlds::Size;
 use crate::config::load;
 use crate::limits::{LINE_LIMIT, SESSION_LIMIT};
@@ -126,7 +126,7 @@ fn green_folder(seed: u64, case: usize) -> Folder {
         let size = [Size::Tiny, Size::Small, Size::Medium][rng.weighted(&[20, 65, 15])];
         let records = rng.between(20, 40);
         let focus = [20, 22][case % 2];
-        let folder = folder(&mut rng, size, records, Some(focus));
+        let folder = folder_with_greens(&mut rng, size, records, Some(focus));
         let text = report(&folder.line, &folder.session);
         let is_met = String::from_utf8_lossy(&text).lines().any(|row| row.ends_with(" 22"));
         if is_met && folder.line.len() + folder.session.len() <= GREEN_BYTES {

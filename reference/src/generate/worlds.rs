@@ -46,6 +46,8 @@ pub struct World {
     pub zones: Vec<usize>,
     /// Those of them that are to be green (request N5), or another; none in worlds from before there were any.
     pub greens: Vec<usize>,
+    /// Whether its sessions lock devices (request N6); not in worlds from before there were locks.
+    pub locks: bool,
     /// The planned partition of each driver, device and object; 0 is none.
     pub drivers: Vec<usize>,
     pub devices: Vec<usize>,
@@ -78,6 +80,7 @@ pub fn world(rng: &mut Rng, size: Size) -> World {
         line: Vec::new(),
         zones,
         greens: Vec::new(),
+        locks: false,
         drivers: driver_homes,
         devices: device_homes,
         objects: Vec::new(),

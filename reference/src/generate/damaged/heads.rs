@@ -12,7 +12,7 @@ use crate::state::{DESTROYED, GREEN, NEVER_USED, NONE, State, exists};
 fn alone_by(name: &str, sound: &State, change: impl FnOnce(&mut State)) -> Damaged {
     let mut state = sound.clone();
     change(&mut state);
-    Damaged { name: name.to_string(), state, place: 0, head_fits: false }
+    Damaged { head_fits: false, ..Damaged::nothing(name, state) }
 }
 
 /// A status that there is not, often the least.
@@ -73,10 +73,9 @@ fn lost_partitions(rng: &mut Rng, config: &Config, sound: &State) -> Vec<Damaged
         state.status[usize::from(zone)] = status;
         let owners = sound.drivers.contains(&zone) || sound.devices.contains(&zone);
         out.push(Damaged {
-            name: format!("objects in a partition {name}"),
-            state,
             place: inside(zone).unwrap_or(0),
             head_fits: status <= GREEN && !owners,
+            ..Damaged::nothing(&format!("objects in a partition {name}"), state)
         });
     }
     out
@@ -105,7 +104,10 @@ fn moved_owner(rng: &mut Rng, config: &Config, sound: &State, name: &str, owner:
             owned.iter().for_each(|object| state.objects[object - 1].partition = partition);
         }
         let place = owned.first().copied().unwrap_or(0);
-        out.push(Damaged { name: format!("a {name} {way}"), state, place, head_fits });
+        // A locked device that is moved out of none breaks the rule of its lock too.
+        let locked = matches!(owner, Owner::Device(device) if sound.is_locked(device));
+        let locks_fit = !locked || partition == NONE;
+        out.push(Damaged { place, head_fits, locks_fit, ..Damaged::nothing(&format!("a {name} {way}"), state) });
     }
     out
 }

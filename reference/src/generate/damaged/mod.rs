@@ -1,8 +1,9 @@
 //! State areas that are broken on purpose, each with the record that has to be found (request N3): one record in one
 //! rule, at every place that matters; two records; the head alone, in each of its rules; the head so that records break
-//! with it.
+//! with it; the lock bytes alone, in each of their rules (request N6), and beside the head and records.
 
 mod heads;
+mod locks;
 mod records;
 
 use super::areas::{scrambled, zones};
@@ -19,8 +20,16 @@ pub struct Damaged {
     pub state: State,
     /// The first record that breaks a rule; 0 if none does.
     pub place: usize,
-    /// Whether the bytes before the records keep their rules.
+    /// Whether the bytes before the records keep their rules, and the lock bytes behind them.
     pub head_fits: bool,
+    pub locks_fit: bool,
+}
+
+impl Damaged {
+    /// A state in which nothing is broken yet.
+    fn nothing(name: &str, state: State) -> Damaged {
+        Damaged { name: name.to_string(), state, place: 0, head_fits: true, locks_fit: true }
+    }
 }
 
 /// A configuration, and areas for it.
@@ -81,11 +90,14 @@ pub fn sound(rng: &mut Rng, config: &Config) -> State {
 fn damaged(rng: &mut Rng, config: &Config, sound: &State) -> Vec<Damaged> {
     let records = records::broken(rng, config, sound);
     let heads = heads::alone(rng, config, sound);
-    let mut all = vec![Damaged { name: "nothing".to_string(), state: sound.clone(), place: 0, head_fits: true }];
+    let locks = locks::alone(rng, config, sound);
+    let mut all = vec![Damaged::nothing("nothing", sound.clone())];
     all.extend(pairs(rng, "two records", &records, &records));
     all.extend(pairs(rng, "the head and a record", &heads, &records));
+    all.extend(pairs(rng, "a lock and a record", &locks, &records));
     all.extend(heads::with_records(rng, config, sound));
     all.extend(heads);
+    all.extend(locks);
     all.extend(records);
     all
 }
@@ -109,7 +121,7 @@ fn with_record(name: &str, one: &Damaged, other: &Damaged) -> Damaged {
     let mut state = one.state.clone();
     state.objects[other.place - 1] = other.state.objects[other.place - 1];
     let place = if one.place == 0 { other.place } else { one.place.min(other.place) };
-    Damaged { name: name.to_string(), state, place, head_fits: one.head_fits }
+    Damaged { name: name.to_string(), state, place, ..*one }
 }
 
 /// A byte other than 0, often one that names an existing partition.

@@ -50,7 +50,7 @@ pub fn broken(rng: &mut Rng, config: &Config, sound: &State) -> Vec<Damaged> {
             if let Some(record) = breach(rng, config, sound, place) {
                 let mut state = sound.clone();
                 state.objects[place - 1] = record;
-                out.push(Damaged { name: name.to_string(), state, place, head_fits: true });
+                out.push(Damaged { place, ..Damaged::nothing(name, state) });
             }
         }
     }

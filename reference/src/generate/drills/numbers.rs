@@ -75,6 +75,7 @@ impl Numbers {
             config,
             zones: homes(&old.zones),
             greens: homes(&old.greens),
+            locks: old.locks,
             drivers: moved(&self.drivers, &homes(&old.drivers)),
             devices: moved(&self.devices, &homes(&old.devices)),
             objects: moved(&self.objects, &homes(&old.objects)),

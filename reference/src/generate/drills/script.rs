@@ -45,6 +45,7 @@ impl Script<'_> {
             line: Vec::new(),
             zones: Vec::new(),
             greens: Vec::new(),
+            locks: false,
             drivers: Vec::new(),
             devices: Vec::new(),
             objects: Vec::new(),
