@@ -4,6 +4,7 @@
 mod common;
 
 use common::{SMALL_AREA, SMALL_LOCKS, WIDE_AREA, desk_after_seven};
+use reference::faults::lock_areas::{FORMED_LOCKS, SMALL_PLACE};
 use reference::faults::walks::{FORMED, NO_GREEN, WALKS};
 use reference::generate::damaged::{Damaged, Line, lines, sound};
 use reference::generate::lengths::plain_line;
@@ -186,18 +187,20 @@ fn green_zones_exist() {
 
 #[test]
 fn damaged_areas_tell_every_faulty_question_9() {
-    let mut told = FORMED.map(|(name, _)| (name, [0; 2]));
+    let faulty = [&FORMED[..], &FORMED_LOCKS].concat();
+    let mut told: Vec<(&str, [usize; 2])> = faulty.iter().map(|(name, _)| (*name, [0; 2])).collect();
     for Line { config, areas, .. } in damaged_lines(28, 50) {
         for one in &areas {
-            let right = one.place == 0 && one.head_fits;
-            for ((_, formed), (_, counts)) in FORMED.iter().zip(&mut told) {
+            let right = one.place == 0 && one.head_fits && one.locks_fit;
+            for ((_, formed), (_, counts)) in faulty.iter().zip(&mut told) {
                 counts[usize::from(config.is_wide())] += usize::from(formed(&config, &one.state) != right);
             }
         }
     }
     println!("{told:?}");
     for (name, counts) in told {
-        assert!(counts.iter().all(|count| *count >= 3), "{name}: {counts:?}");
+        let small = if name == SMALL_PLACE { 0 } else { 3 };
+        assert!(counts[0] >= small && counts[1] >= 3, "{name}: {counts:?}");
     }
 }
 

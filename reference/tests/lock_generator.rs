@@ -5,11 +5,14 @@ mod common;
 
 use common::{SMALL_AREA, SMALL_LOCKS, WIDE_AREA, WIDE_LOCKS};
 use reference::closure::closure;
+use reference::faults::lock_areas::{FRESH, LENGTHS, SHORTER};
+use reference::faults::{self, LOCKS};
 use reference::gate::judge;
 use reference::generate::lengths::{LOCKABLE, lock_bytes, lock_lengths};
 use reference::generate::records::record;
 use reference::generate::{Call, Calls, Function, Rng, Size, Want, areas, locking};
 use reference::state::{State, well_formed};
+use reference::tokens::row;
 use reference::{Config, fresh, load, operate, operation};
 use std::collections::BTreeMap;
 
@@ -191,4 +194,99 @@ fn lock_bytes_of_every_value() {
             assert_eq!(number != 9, fits, "{set:?} {:?}", state.locks);
         }
     }
+}
+
+/// The calls of the matching tell what goes wrong with lengths and with fresh states, which no session shows, for small
+/// configurations and for wide ones.
+#[test]
+fn calls_tell_faulty_lengths_and_fresh_states() {
+    let mut told: Counts<(&str, bool)> = BTreeMap::new();
+    let mut count = |call: &Call| {
+        let Ok(config) = load(&call.line) else { return };
+        let right = call.state.len() == config.state_bytes();
+        for (name, fits) in LENGTHS.iter().filter(|_| call.function != Function::LoadCheck) {
+            *told.entry((name, config.is_wide())).or_default() += usize::from(fits(&config, call.state.len()) != right);
+        }
+        if call.function == Function::Fresh && right {
+            for (name, freshened) in FRESH {
+                let other = freshened(&config, &call.state) != State::fresh(&config).to_bytes();
+                *told.entry((name, config.is_wide())).or_default() += usize::from(other);
+            }
+        }
+    };
+    let mut calls = Calls::new(10);
+    for _ in 0..10_000 {
+        let call = calls.next_call();
+        count(&call);
+        let mut state = call.state.clone();
+        match call.function {
+            Function::Operate => drop(operate(&call.line, &mut state, &call.record, &mut call.answer.clone())),
+            Function::Fresh => drop(fresh(&call.line, &mut state)),
+            Function::LoadCheck => (),
+        }
+        calls.carry(&call, &state);
+    }
+    LOCKABLE.iter().for_each(|(devices, objects)| {
+        lock_lengths(&mut Rng::new(3), *devices, *objects).iter().for_each(&mut count);
+    });
+    println!("{told:?}");
+    let names = LENGTHS.iter().map(|(name, _)| *name).chain(FRESH.iter().map(|(name, _)| *name));
+    for name in names {
+        // The shorter length is right for small configurations.
+        let small = if name == SHORTER { 0 } else { 5 };
+        assert!(told[&(name, false)] >= small && told[&(name, true)] >= 5, "{name} {told:?}");
+    }
+}
+
+/// The calls of the matching tell every faulty judge of locks too.
+#[test]
+fn calls_tell_every_faulty_judge_of_locks() {
+    let faulty = LOCKS;
+    let mut told: Counts<&str> = BTreeMap::new();
+    let mut calls = Calls::new(11);
+    for _ in 0..30_000 {
+        let call = calls.next_call();
+        let mut state = call.state.clone();
+        match (call.function, load(&call.line)) {
+            (Function::Operate, Ok(config)) => {
+                let number = operate(&call.line, &mut state, &call.record, &mut call.answer.clone());
+                let before = State::from_bytes(&config, &call.state).filter(|state| well_formed(&config, state));
+                if let Some(before) = before.filter(|_| number == 0 || number >= 10) {
+                    let right = judge(closure, &config, &before, &call.record);
+                    for fault in faulty.iter().filter(|fault| fault.can_touch(&config, &call.record, number as u8)) {
+                        let other = faults::judge(fault, &config, &before, &call.record) != right;
+                        *told.entry(fault.name).or_default() += usize::from(other);
+                    }
+                }
+            }
+            (Function::Fresh, _) => drop(fresh(&call.line, &mut state)),
+            _ => (),
+        }
+        calls.carry(&call, &state);
+    }
+    println!("{told:?}");
+    for fault in &faulty {
+        assert!(often(&told, &fault.name, 5), "{} {told:?}", fault.name);
+    }
+}
+
+/// Whether codes 8 and 11 clear the lock of the device that they move cannot be told: in a well formed state a device
+/// that either of them is accepted for has none.
+#[test]
+fn a_device_that_comes_or_leaves_has_no_lock() {
+    let mut moved = [0; 2];
+    for seed in 0..300 {
+        let mut rng = Rng::part(42, seed);
+        let world = locking(&mut rng, Size::Small);
+        let state = areas::scrambled(&mut rng, &world.config);
+        for device in 1..=world.config.devices() {
+            for (count, record) in moved.iter_mut().zip([vec![11, device], vec![8, device, rng.between(1, 63)]]) {
+                if judge(closure, &world.config, &state, &row(&record)).is_ok() {
+                    *count += 1;
+                    assert!(!state.is_locked(device));
+                }
+            }
+        }
+    }
+    assert!(moved.iter().all(|count| *count > 0), "{moved:?}");
 }

@@ -3,9 +3,9 @@
 mod common;
 
 use common::file_l;
-use reference::generate::corners::{green_corners, ring_corners};
+use reference::generate::corners::{green_corners, lock_corners, ring_corners};
 use reference::generate::drills::POINTS;
-use reference::generate::stored::{GREEN_CASES, MOST_INPUT, RING_CASES, long, with_drills};
+use reference::generate::stored::{GREEN_CASES, LOCK_CASES, MOST_INPUT, RING_CASES, long, with_drills};
 use reference::generate::{Folder, Rng, Size, sessions::folder, stored};
 use reference::office::next_record;
 use reference::varint::Reader;
@@ -59,8 +59,8 @@ fn lengths_and_cuts() {
 fn stored_cases_hold_together() {
     let cases = with_drills(1, 300, 120_000);
     let drills: usize = POINTS.iter().map(|(_, count)| count).sum();
-    let corners = ring_corners().len() + green_corners().len();
-    assert_eq!(cases.tally.cases, 300 + drills + corners + RING_CASES + GREEN_CASES);
+    let corners = ring_corners().len() + green_corners().len() + lock_corners().len();
+    assert_eq!(cases.tally.cases, 300 + drills + corners + RING_CASES + GREEN_CASES + LOCK_CASES);
     assert!(cases.input.len() <= MOST_INPUT);
     assert_eq!(cases.tally.rare(5), Vec::<usize>::new());
     assert!(cases.tally.cut >= 5 && cases.tally.silent >= 1);
@@ -83,7 +83,7 @@ fn checksum(bytes: &[u8]) -> u64 {
 }
 
 /// The cases that were stored before there were wide configurations come first, byte for byte; then those of wide ones,
-/// then those of devices with rings, then those of green zones, of which one example has none.
+/// then those of devices with rings, then those of green zones, of which one example has none, then those of locks.
 #[test]
 fn the_cases_of_before_come_first() {
     let cases = with_drills(1, 300, 120_000);
@@ -100,6 +100,9 @@ fn the_cases_of_before_come_first() {
     assert_eq!(checksum(&cases.input[..159_834]), 0x8723_EF9D_2632_136D);
     let behind = stored::cases(&cases.input[147_001..159_834]).expect("whole cases");
     assert_eq!(behind.iter().filter(|case| codes(&case.session).contains(&13)).count(), behind.len() - 1);
+    let behind = stored::cases(&cases.input[159_834..]).expect("whole cases");
+    let locks = |case: &&Folder| codes(&case.session).iter().any(|code| matches!(code, 14 | 15));
+    assert_eq!(behind.iter().filter(locks).count(), behind.len());
 }
 
 /// The codes of a session's records; 0 for one that cannot be read.

@@ -205,7 +205,7 @@ fn wide_areas_are_broken_behind_the_last_object() {
 #[test]
 fn every_turn_of_the_wide_drills_is_sound() {
     let mut counts: Counts<usize> = BTreeMap::new();
-    for seed in 0..600 {
+    for seed in 0..800 {
         let drill = drills::any(&mut Rng::part(7, seed));
         assert_eq!(load(&drill.world.line).as_ref(), Ok(&drill.world.config), "seed {seed}");
         *counts.entry(drill.world.config.objects.len()).or_default() += 1;

@@ -2,6 +2,7 @@
 
 use super::chains::{ORDERS, Order};
 use super::greens::Greens;
+use super::locks::Locks;
 use super::wide::Wide;
 use super::{Coverage, LONGEST, Noticed};
 use crate::faults::{Fault, LOADERS};
@@ -23,6 +24,25 @@ const CREATED: [(u8, usize); 4] = [(0, 50), (10, 5), (11, 5), (14, 15)];
 const GREEN_STORED: [(usize, usize); 2] = [(1, 60), (3, 20)];
 const STRICT: [(usize, usize); 3] = [(10, 10), (11, 10), (12, 15)];
 const GREEN_ENTERED: usize = 30;
+/// Of locks (request N6): cases with one, records of codes 14 and 15 by answer, code 8 refused by 23, accepted records
+/// of other codes while a device is locked, and devices that are locked in wide configurations.
+const LOCK_CASES: usize = 25;
+const LOCKED: [(usize, u8, usize); 11] = [
+    (8, 23, 60),
+    (14, 0, 60),
+    (14, 10, 5),
+    (14, 11, 5),
+    (14, 16, 20),
+    (14, 23, 25),
+    (15, 0, 50),
+    (15, 10, 5),
+    (15, 11, 5),
+    (15, 16, 15),
+    (15, 23, 25),
+];
+const BESIDE_LOCKS: [(usize, usize); 11] =
+    [(1, 10), (3, 8), (5, 8), (6, 5), (7, 10), (8, 20), (9, 10), (10, 8), (11, 10), (12, 5), (13, 10)];
+const WIDE_LOCKED: usize = 16;
 /// Files that a faulty question 6 answers in another way.
 const FILES: usize = 3;
 /// Calls that notice a fault, for each right answer that must show it.
@@ -95,7 +115,7 @@ impl Coverage {
     /// All rows but those of the faulty judges.
     fn rows(&self) -> Vec<Row> {
         let rows = [self.chain_rows(), self.refusal_rows(), self.ring_rows(), self.wide.rows(), self.greens.rows()];
-        rows.into_iter().flatten().collect()
+        rows.into_iter().flatten().chain(self.locks.rows()).collect()
     }
 
     /// What is below its least, and what contradicts itself.
@@ -107,6 +127,9 @@ impl Coverage {
             low.map(|row| format!("{}: {}, at least {}", row.name, row.count, row.least)).collect();
         if self.contradictions > 0 {
             list.push(format!("calls that contradict the shortest chain: {}", self.contradictions));
+        }
+        if self.locks.contradictions > 0 {
+            list.push(format!("states that contradict the records' locks: {}", self.locks.contradictions));
         }
         list
     }
@@ -131,6 +154,22 @@ impl Greens {
             .map(|(code, least)| row(format!("stricter refusals by 20 of code {code}"), self.strict.get(&code), least));
         let entered = row("devices that come into green zones".to_string(), Some(&self.entered), GREEN_ENTERED);
         [zones].into_iter().chain(created).chain(stored).chain(strict).chain([entered]).collect()
+    }
+}
+
+impl Locks {
+    fn rows(&self) -> Vec<Row> {
+        let row =
+            |name: String, count: Option<&usize>, least: usize| Row { name, count: count.copied().unwrap_or(0), least };
+        let cases = row("cases with a locked device".to_string(), Some(&self.cases), LOCK_CASES);
+        let records = LOCKED.map(|(code, number, least)| {
+            row(format!("records of code {code} with answer {number}"), self.records.get(&(code, number)), least)
+        });
+        let beside = BESIDE_LOCKS.map(|(code, least)| {
+            row(format!("accepted records of code {code} beside a lock"), self.beside.get(&code), least)
+        });
+        let wide = row("devices locked in wide configurations".to_string(), Some(&self.wide), WIDE_LOCKED);
+        [cases].into_iter().chain(records).chain(beside).chain([wide]).collect()
     }
 }
 
@@ -173,6 +212,7 @@ impl fmt::Display for Coverage {
             writeln!(out, "{:>6}  {} (at least {})", row.count, row.name, row.least)?;
         }
         writeln!(out, "{:>6}  calls that contradict the shortest chain (none allowed)", self.contradictions)?;
+        writeln!(out, "{:>6}  states that contradict the records' locks (none allowed)", self.locks.contradictions)?;
         writeln!(
             out,
             "cases that notice each fault (and the least), calls by right answer (at least {CALLS} of those asked for)"

@@ -4,6 +4,7 @@
 pub mod chains;
 pub mod greens;
 mod least;
+pub mod locks;
 pub mod wide;
 
 use crate::closure::{closure, crosses};
@@ -19,6 +20,7 @@ use crate::state::State;
 use crate::varint::Reader;
 use chains::{Chain, Order, shortest};
 use greens::Greens;
+use locks::Locks;
 use std::collections::BTreeMap;
 use wide::Wide;
 
@@ -56,6 +58,8 @@ pub struct Coverage {
     pub wide: Wide,
     /// What is shown of green zones.
     pub greens: Greens,
+    /// What is shown of locks.
+    pub locks: Locks,
     /// Calls that the closure judges in one way and the search for the shortest chain in the other.
     pub contradictions: usize,
     pub noticed: Vec<Noticed>,
@@ -84,6 +88,7 @@ impl Coverage {
             refused: BTreeMap::new(),
             wide: Wide::default(),
             greens: Greens::default(),
+            locks: Locks::default(),
             contradictions: 0,
             noticed: noticed.collect(),
             loaded: [0; LOADERS.len()],
@@ -101,6 +106,7 @@ impl Coverage {
         self.calls += calls.len();
         self.wide.count(config, calls.iter().map(|call| (call.record, call.number)));
         self.greens.count_case(calls.iter().map(|call| &call.after));
+        self.locks.count(config, calls.iter().map(|call| (call.record, call.number, &call.after)));
         for call in calls {
             self.greens.count(config, &call.before, call.record, call.number);
             self.count_chain(config, call);

@@ -37,7 +37,7 @@ pub const COLOURS: [Fault; 13] = [
     fourteen("5 passes on green zones", &[5], &[14], |case| passes_on(case, 5, GREEN)),
     fourteen("green zones do not exist for code 6", &[6], &[0, 15], |case| fails_on_green(case, 6)),
     fourteen("green zones do not exist for code 7", &[7], &[0, 16], |case| fails_on_green(case, 7)),
-    Fault { asked: &[0, 16, 22], ..fourteen(NO_DEVICE, &[8], &[0, 16, 21, 22], |case| fails_on_green(case, 8)) },
+    Fault { asked: &[0, 16, 22], ..fourteen(NO_DEVICE, &[8], &[0, 16, 21, 22, 23], |case| fails_on_green(case, 8)) },
     fourteen("green zones do not exist for code 9", &[9], &[0, 16], |case| fails_on_green(case, 9)),
     Fault { asked: &[0, 20], ..fourteen(NO_LEAVING, &[12], &[0, 16, 17, 20], |case| fails_on_green(case, 12)) },
 ];

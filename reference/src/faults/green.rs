@@ -75,7 +75,7 @@ pub const GREENS: [Fault; 37] = [
     stored("22 put in every zone", &[0], green_in_every_zone),
     Fault { instead: Some((19, twenty_two_is_no_matter)), ..stored("19 put in green zones too", &[22], |_| true) },
     Fault { instead: Some((19, nothing_green_or_19)), ..stored("19 not put beside a green zone", &[19], |_| true) },
-    early("22 before 16", &[1, 3, 8], &[16, 17], 22, 16),
+    early("22 before 16", &[1, 3, 8], &[16, 17, 23], 22, 16),
     early("22 before 17", &[1, 3], &[17], 22, 17),
     early("22 after 21", &[8], &[22], 21, 22),
     entering("22 not put to devices", &[22], |case| driver_zone(case).is_none() || plain(22, case)),

@@ -1,16 +1,20 @@
 //! Judges that are faulty on purpose, each in one point. What is judged right by all of them tells nothing about that
 //! point: `coverage` counts the sessions that notice each. The plain judge knows nothing of this module. No session
-//! shows a state area that is broken, so walks over one (`walks`) stand beside these judges.
+//! shows a state area that is broken or of another length, so walks over one (`walks`), and what goes wrong with its
+//! lock bytes (`lock_areas`), stand beside these judges.
 
 mod answers;
 mod colours;
 mod green;
+pub mod lock_areas;
+mod locks;
 mod rings;
 mod searches;
 pub mod walks;
 mod wide;
 
 pub use green::UNREACHED as GREEN_UNREACHED;
+pub use locks::LOCKS;
 pub use rings::{LOADERS, UNREACHED};
 
 use crate::closure::{Search, closure, limited};
@@ -180,8 +184,8 @@ const OTHERS: [Fault; 7] = [
 
 /// A fault of wide configurations with at least so many objects: it can touch everything, and accepted calls show it.
 const fn wide(name: &'static str, objects: usize) -> Fault {
-    const CODES: &[usize] = &[1, 2, 3, 4, 5, 6, 7, 8, 9, 10, 11, 12, 13];
-    const ANSWERS: &[u8] = &[0, 10, 11, 12, 13, 14, 15, 16, 17, 18, 19, 20, 21, 22];
+    const CODES: &[usize] = &[1, 2, 3, 4, 5, 6, 7, 8, 9, 10, 11, 12, 13, 14, 15];
+    const ANSWERS: &[u8] = &[0, 10, 11, 12, 13, 14, 15, 16, 17, 18, 19, 20, 21, 22, 23];
     Fault { name, codes: CODES, touches: ANSWERS, asked: &[0], objects, ..NONE }
 }
 
@@ -213,7 +217,7 @@ const WIDE: [Fault; 7] = [
 
 /// All faults that sessions notice.
 pub fn all() -> Vec<Fault> {
-    [&SEARCHES[..], &DESCRIBED, &OTHERS, &WIDE, &RINGS, &GREENS, &COLOURS].concat()
+    [&SEARCHES[..], &DESCRIBED, &OTHERS, &WIDE, &RINGS, &GREENS, &COLOURS, &LOCKS].concat()
 }
 
 impl Fault {
@@ -230,7 +234,7 @@ impl Fault {
     }
 }
 
-/// Questions 10 to 22 as the faulty judge puts them, for a well formed state; a file that it refuses is refused at
+/// Questions 10 to 23 as the faulty judge puts them, for a well formed state; a file that it refuses is refused at
 /// every call.
 pub fn judge(fault: &Fault, config: &Config, state: &State, record: &[u8]) -> Judgement {
     let taken = fault.taken.map(|taken| taken(config)).transpose()?;

@@ -26,8 +26,15 @@ pub const RINGS: [Fault; 13] = [
     twenty_one("21 put with kind 4 cleared", &[21], |case| crosses_in(case, &all_cleared(case))),
     twenty_one("21 looks at the device that comes in", &[21], |case| passes_for(case, |_, who, device| who == device)),
     twenty_one("21 searches for that device alone", &[21], |case| crosses_in(case, &alone(case))),
-    Fault { name: "21 before 16", codes: &[8], touches: &[16, 22], asked: &[16], early: Some((21, 16)), ..NONE },
-    Fault { name: "21 before 14", codes: &[8], touches: &[14, 16, 22], asked: &[14], early: Some((21, 14)), ..NONE },
+    Fault { name: "21 before 16", codes: &[8], touches: &[16, 22, 23], asked: &[16], early: Some((21, 16)), ..NONE },
+    Fault {
+        name: "21 before 14",
+        codes: &[8],
+        touches: &[14, 16, 22, 23],
+        asked: &[14],
+        early: Some((21, 14)),
+        ..NONE
+    },
     Fault { asked: &[21], ..search("closure: hardcoded values write nothing", without_ring_writes) },
     Fault { asked: &[21], ..search("closure: hardcoded values put 0", with_ring_values_0) },
     eighteen("18: hardcoded values write no kind 1", &[0], |case| described_by(case, without_ring)),

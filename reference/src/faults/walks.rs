@@ -1,5 +1,6 @@
 //! Walks over the records of a state area (request N3), and questions 9, that are faulty on purpose, each in one point.
 
+use super::lock_areas::walk_with_locks;
 use crate::config::{Config, Kind, Owner};
 use crate::limits::SMALL_ROOM;
 use crate::state::{
@@ -11,7 +12,7 @@ use crate::state::{
 pub type Walk = fn(&Config, &State) -> usize;
 
 /// The walks, by what each does wrong.
-pub const WALKS: [(&str, Walk); 17] = [
+pub const WALKS: [(&str, Walk); 18] = [
     ("starts at record 2", |config, state| bad(config, state).find(|number| *number > 1).unwrap_or(0)),
     ("leaves the last record out", |config, state| kept(config, state, state.objects.len() - 1)),
     ("passes over absent records", |config, state| kept(config, state, config.objects.len())),
@@ -29,6 +30,7 @@ pub const WALKS: [(&str, Walk); 17] = [
     ("asks hardcoded descriptors for any value", |config, state| seen_as(config, state, right_if_hardcoded)),
     ("takes unknown statuses for existing", |config, state| seen_as(config, state, |_, state| known(state, EXISTING))),
     (NO_GREEN, |config, state| seen_as(config, state, |_, state| nothing_green(state))),
+    ("goes on to the lock bytes", |config, state| walk_with_locks(config, state, first_bad(config, state))),
 ];
 
 /// The walk that names records in sound states too.

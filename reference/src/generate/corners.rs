@@ -157,6 +157,58 @@ const BAD_GREEN: [&[u8]; 17] = [
     &[5, 63],
 ];
 
+/// The example of request N6 over L.
+const LOCKS_OVER_L: [&[u8]; 14] = [
+    &[14, 1],
+    &[14, 1],
+    &[5, 1],
+    &[8, 1, 1],
+    &[8, 1, 9],
+    &[15, 1],
+    &[15, 1],
+    &[8, 1, 1],
+    &[14, 1],
+    &[15, 1],
+    &[14, 3],
+    &[14, 0],
+    &[11, 1],
+    &[14, 1],
+];
+
+/// What stands behind code 14 or 15 in records that cannot be read, and in those whose device does not exist.
+const BAD_LOCK: [&[u8]; 14] = [
+    &[],
+    &[1, 0],
+    &[1, 1],
+    &[128],
+    &[129, 0],
+    &[129, 128, 0],
+    &[128, 128, 4],
+    &[255, 255, 255, 1],
+    &[0],
+    &[3],
+    &[17],
+    &[127],
+    &[208, 15],
+    &[255, 255, 3],
+];
+
+/// The example of request N6, and bad records of each code, with the next codes, which nobody knows, and the codes in a
+/// longer form.
+pub fn lock_corners() -> Vec<Folder> {
+    let bad = |code: u8| {
+        let records: Vec<Vec<u8>> = BAD_LOCK.iter().map(|rest| [&[code][..], rest].concat()).collect();
+        let others = [vec![code + 2, 1], vec![code + 128, 0, 1], vec![14, 2], vec![code, 2], vec![code, 2]];
+        let records: Vec<&[u8]> = records.iter().chain(&others).map(Vec::as_slice).collect();
+        session(&records)
+    };
+    vec![
+        Folder { line: file_l(), session: session(&LOCKS_OVER_L) },
+        Folder { line: file_l(), session: bad(14) },
+        Folder { line: file_l(), session: bad(15) },
+    ]
+}
+
 /// The examples of request N5: over L, over a file without devices, whose object is held back in a green zone only, and
 /// over R, whose device has a ring; and bad records.
 pub fn green_corners() -> Vec<Folder> {

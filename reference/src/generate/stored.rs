@@ -2,10 +2,10 @@
 //! length (two bytes each, lowest first), the line's bytes, the session's bytes. The output expected is, for each case,
 //! the report and a line with a dot.
 
-use super::corners::{corners, file_l, green_corners, ring_corners};
+use super::corners::{corners, file_l, green_corners, lock_corners, ring_corners};
 use super::drills::{self, Point};
 use super::rng::Rng;
-use super::sessions::{Folder, folder_of_before, folder_with_greens, folder_with_rings};
+use super::sessions::{Folder, folder, folder_of_before, folder_with_greens, folder_with_rings};
 use super::worlds::Size;
 use crate::config::load;
 use crate::limits::{LINE_LIMIT, SESSION_LIMIT};
@@ -31,11 +31,11 @@ pub struct Tally {
     pub silent: usize,
 }
 
-/// The most bytes of input: what the program that is given the stored cases takes in, 160 KiB.
-pub const MOST_INPUT: usize = 163_840;
+/// The most bytes of input: what the program that is given the stored cases takes in, 192 KiB.
+pub const MOST_INPUT: usize = 196_608;
 
-/// What a session can show: files refused by 1 to 6, rows 0 and 10 to 22.
-pub const SHOWN: [usize; 20] = [0, 1, 2, 3, 4, 5, 6, 10, 11, 12, 13, 14, 15, 16, 17, 18, 19, 20, 21, 22];
+/// What a session can show: files refused by 1 to 6, rows 0 and 10 to 23.
+pub const SHOWN: [usize; 21] = [0, 1, 2, 3, 4, 5, 6, 10, 11, 12, 13, 14, 15, 16, 17, 18, 19, 20, 21, 22, 23];
 /// How many of them a session shows over a line without rings, in zones that are not green.
 const SHOWN_WITHOUT_RING: usize = 18;
 
@@ -101,17 +101,55 @@ pub fn cases(mut input: &[u8]) -> Option<Vec<Folder>> {
     Some(list)
 }
 
-/// Cases as in `stored`, and behind them the drills, then cases of devices with rings, then those of green zones.
+/// Cases as in `stored`, and behind them the drills, then cases of devices with rings, then those of green zones, then
+/// those of locks.
 pub fn with_drills(seed: u64, count: usize, bytes: usize) -> Stored {
     let mut stored = stored(seed, count, bytes);
-    let (points, green_points) = drills::POINTS.split_at(drills::BEFORE_GREENS);
+    let (points, lock_points) = drills::POINTS.split_at(drills::BEFORE_LOCKS);
+    let (points, green_points) = points.split_at(drills::BEFORE_GREENS);
     stored.push_drills(seed, points);
     ring_corners().iter().for_each(|folder| stored.push(folder));
     (0..RING_CASES).for_each(|case| stored.push(&ring_folder(seed, case)));
     stored.push_drills(seed, green_points);
     green_corners().iter().for_each(|folder| stored.push(folder));
     (0..GREEN_CASES).for_each(|case| stored.push(&green_folder(seed, case)));
+    stored.push_drills(seed, lock_points);
+    lock_corners().iter().for_each(|folder| stored.push(folder));
+    (0..LOCK_CASES).for_each(|case| stored.push(&lock_folder(seed, case)));
     stored
+}
+
+/// How many generated cases have locks, where their random source begins, and how long they are at most.
+pub const LOCK_CASES: usize = 16;
+const LOCK_PART: usize = 300_000;
+const LOCK_BYTES: usize = 500;
+
+/// A generated case in which something is refused by 23.
+fn lock_folder(seed: u64, case: usize) -> Folder {
+    let mut rng = Rng::part(seed, (LOCK_PART + case) as u64);
+    loop {
+        let folder = some_folder(&mut rng, 23, folder);
+        if is_met(&folder, 23) && folder.line.len() + folder.session.len() <= LOCK_BYTES {
+            return folder;
+        }
+    }
+}
+
+/// What makes a folder, of a size, with so many records and a number to see often.
+type Making = fn(&mut Rng, Size, usize, Option<u8>) -> Folder;
+
+/// A generated folder, seldom of more than a few objects.
+fn some_folder(rng: &mut Rng, focus: u8, making: Making) -> Folder {
+    let size = [Size::Tiny, Size::Small, Size::Medium][rng.weighted(&[20, 65, 15])];
+    let records = rng.between(20, 40);
+    making(rng, size, records, Some(focus))
+}
+
+/// Whether a session shows this number.
+fn is_met(folder: &Folder, number: u8) -> bool {
+    let text = report(&folder.line, &folder.session);
+    let end = format!(" {number}");
+    String::from_utf8_lossy(&text).lines().any(|row| row.ends_with(&end))
 }
 
 /// How many generated cases have green zones, where their random source begins, and how long they are at most.
@@ -123,13 +161,8 @@ const GREEN_BYTES: usize = 500;
 fn green_folder(seed: u64, case: usize) -> Folder {
     let mut rng = Rng::part(seed, (GREEN_PART + case) as u64);
     loop {
-        let size = [Size::Tiny, Size::Small, Size::Medium][rng.weighted(&[20, 65, 15])];
-        let records = rng.between(20, 40);
-        let focus = [20, 22][case % 2];
-        let folder = folder_with_greens(&mut rng, size, records, Some(focus));
-        let text = report(&folder.line, &folder.session);
-        let is_met = String::from_utf8_lossy(&text).lines().any(|row| row.ends_with(" 22"));
-        if is_met && folder.line.len() + folder.session.len() <= GREEN_BYTES {
+        let folder = some_folder(&mut rng, [20, 22][case % 2], folder_with_greens);
+        if is_met(&folder, 22) && folder.line.len() + folder.session.len() <= GREEN_BYTES {
             return folder;
         }
     }

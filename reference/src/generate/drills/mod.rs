@@ -7,6 +7,7 @@ mod copies;
 mod greens;
 mod ladders;
 mod leaving;
+mod locks;
 pub mod numbers;
 mod rings;
 mod script;
@@ -55,10 +56,14 @@ pub enum Point {
     GreenUnread,
     GreenStandings,
     GreenWide,
+    LockStandings,
+    LockDrivers,
+    LockRings,
+    LockWide,
 }
 
 /// All points, and how many drills of each are stored. Those stored first keep their places when others are added.
-pub const POINTS: [(Point, usize); 31] = [
+pub const POINTS: [(Point, usize); 35] = [
     (Point::CrossingByWrite, 8),
     (Point::CrossingByCopy, 4),
     (Point::LeavingByChain, 8),
@@ -90,11 +95,16 @@ pub const POINTS: [(Point, usize); 31] = [
     (Point::GreenUnread, 2),
     (Point::GreenStandings, 5),
     (Point::GreenWide, 1),
+    (Point::LockStandings, 8),
+    (Point::LockDrivers, 3),
+    (Point::LockRings, 5),
+    (Point::LockWide, 2),
 ];
 
-/// Where the points of devices with rings begin, and behind them those of green zones.
+/// Where the points of devices with rings begin, behind them those of green zones, and those of locks.
 const BEFORE_RINGS: usize = 15;
 pub const BEFORE_GREENS: usize = 23;
+pub const BEFORE_LOCKS: usize = 31;
 
 /// A drill for a point; `turn` goes through the point's ways.
 fn drill(rng: &mut Rng, point: Point, turn: usize) -> Drill {
@@ -133,6 +143,10 @@ fn drill(rng: &mut Rng, point: Point, turn: usize) -> Drill {
         Point::GreenUnread => colours::unread_ring(rng, !inside),
         Point::GreenStandings => colours::standings(rng),
         Point::GreenWide => greens::clauses(rng, MAX_ONE_BYTE),
+        Point::LockStandings => locks::standings(rng),
+        Point::LockDrivers => locks::drivers(rng),
+        Point::LockRings => locks::rings(rng),
+        Point::LockWide => locks::wide(rng, [fewest, most, first_of_two_bytes, one_absent][turn % 4]),
     }
 }
 
@@ -189,7 +203,12 @@ pub fn any_ring(rng: &mut Rng) -> Drill {
 
 /// Any drill with a green zone.
 pub fn any_green(rng: &mut Rng) -> Drill {
-    any_of(rng, &POINTS[BEFORE_GREENS..])
+    any_of(rng, &POINTS[BEFORE_GREENS..BEFORE_LOCKS])
+}
+
+/// Any drill with locks.
+pub fn any_lock(rng: &mut Rng) -> Drill {
+    any_of(rng, &POINTS[BEFORE_LOCKS..])
 }
 
 fn any_of(rng: &mut Rng, points: &[(Point, usize)]) -> Drill {
