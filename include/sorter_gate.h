@@ -34,9 +34,11 @@ extern "C" {
 
 /* begin sizes: made by tests/tables from tables/numbers.ini */
 /* The length of the state area of a line of at most 96 objects. */
-#define SORTER_GATE_STATE_BYTES 1728
+#define SORTER_GATE_STATE_BYTES 1744
 /* The length of the state area of a line of more objects, at most 192; no area is longer. */
-#define SORTER_GATE_STATE_BYTES_WIDE 3360
+#define SORTER_GATE_STATE_BYTES_WIDE 3376
+/* The lock bytes, a card's each, with which a state area of either length ends. */
+#define SORTER_GATE_LOCK_BYTES 16
 /* The least length of an answer area. */
 #define SORTER_GATE_ANSWER_BYTES 128
 /* The length of the longest line file that can be accepted; refuse a longer one before you call. */
@@ -48,19 +50,21 @@ extern "C" {
 /* What a record begins with, and what follows it; docs/CONTROLLER.md, 'Records', says how an item is written. */
 /* begin codes: made by tests/tables from tables/codes.ini */
 enum sorter_gate_code {
-    SORTER_GATE_CODE_DRIVER_WRITE = 1,           /* then driver, count, items */
-    SORTER_GATE_CODE_CARD_WRITE = 2,             /* then card, count, items */
-    SORTER_GATE_CODE_DRIVER_READ = 3,            /* then driver, count, pairs: source, destination or 0 */
-    SORTER_GATE_CODE_CARD_READ = 4,              /* then card, count, pairs: source, destination or 0 */
-    SORTER_GATE_CODE_CREATE_PARTITION = 5,       /* then partition */
-    SORTER_GATE_CODE_DESTROY_PARTITION = 6,      /* then partition */
-    SORTER_GATE_CODE_ACTIVATE_DRIVER = 7,        /* then driver, partition */
-    SORTER_GATE_CODE_ACTIVATE_CARD = 8,          /* then card, partition */
-    SORTER_GATE_CODE_ACTIVATE_OBJECTS = 9,       /* then partition, count, objects */
-    SORTER_GATE_CODE_DEACTIVATE_DRIVER = 10,     /* then driver */
-    SORTER_GATE_CODE_DEACTIVATE_CARD = 11,       /* then card */
-    SORTER_GATE_CODE_DEACTIVATE_OBJECTS = 12,    /* then partition, count, objects */
-    SORTER_GATE_CODE_CREATE_GREEN_PARTITION = 13 /* then partition */
+    SORTER_GATE_CODE_DRIVER_WRITE = 1,            /* then driver, count, items */
+    SORTER_GATE_CODE_CARD_WRITE = 2,              /* then card, count, items */
+    SORTER_GATE_CODE_DRIVER_READ = 3,             /* then driver, count, pairs: source, destination or 0 */
+    SORTER_GATE_CODE_CARD_READ = 4,               /* then card, count, pairs: source, destination or 0 */
+    SORTER_GATE_CODE_CREATE_PARTITION = 5,        /* then partition */
+    SORTER_GATE_CODE_DESTROY_PARTITION = 6,       /* then partition */
+    SORTER_GATE_CODE_ACTIVATE_DRIVER = 7,         /* then driver, partition */
+    SORTER_GATE_CODE_ACTIVATE_CARD = 8,           /* then card, partition */
+    SORTER_GATE_CODE_ACTIVATE_OBJECTS = 9,        /* then partition, count, objects */
+    SORTER_GATE_CODE_DEACTIVATE_DRIVER = 10,      /* then driver */
+    SORTER_GATE_CODE_DEACTIVATE_CARD = 11,        /* then card */
+    SORTER_GATE_CODE_DEACTIVATE_OBJECTS = 12,     /* then partition, count, objects */
+    SORTER_GATE_CODE_CREATE_GREEN_PARTITION = 13, /* then partition */
+    SORTER_GATE_CODE_LOCK_CARD = 14,              /* then card */
+    SORTER_GATE_CODE_UNLOCK_CARD = 15             /* then card */
 };
 /* end codes */
 
@@ -83,13 +87,14 @@ enum sorter_gate_answer {
     SORTER_GATE_KIND = 13,           /* kinds do not fit */
     SORTER_GATE_PARTITION = 14,      /* the partition was used before (create), or does not exist */
     SORTER_GATE_NOT_EMPTY = 15,      /* something is in the partition that is to be destroyed */
-    SORTER_GATE_ACTIVITY = 16,       /* what is brought in is active, or what acts or leaves is not */
+    SORTER_GATE_ACTIVITY = 16,       /* what comes in, is locked or unlocked is active, or what acts or leaves not */
     SORTER_GATE_ELSEWHERE = 17,      /* an object is not in the driver's partition, or not in the one named */
     SORTER_GATE_NOT_DESCRIBED = 18,  /* a card's transfer is not described by what it reads now */
     SORTER_GATE_OUTSIDE = 19,        /* a chain of descriptor writes would lead a card out of its partition */
     SORTER_GATE_IN_REACH = 20,       /* an active card can reach what leaves, or a green zone's descriptor names it */
     SORTER_GATE_ENTERS_OUTSIDE = 21, /* with this card brought in, a chain of writes would lead a card outside */
-    SORTER_GATE_GREEN_RULE = 22      /* green zone: a stored value or the card's hard-wired one breaks its rule */
+    SORTER_GATE_GREEN_RULE = 22,     /* green zone: a stored value or the card's hard-wired one breaks its rule */
+    SORTER_GATE_LOCKED = 23          /* the card to be brought in or locked is locked, or the one to unlock not */
 };
 /* end answers */
 
@@ -141,7 +146,7 @@ uint32_t gate_operate(const uint8_t *line, size_t line_len, uint8_t *state, size
  * place above the line's count of objects is that of a record that has to be 0; and 0 is that no record breaks a rule.
  * Refused: the number is the first of questions 1 to 7 that is answered with no. Changes nothing. The place 0 does not
  * say that the state is well formed: where gate_operate answers 9 all the same, the fault is in the bytes of
- * partitions, drivers or cards.
+ * partitions, drivers, cards or locks.
  */
 uint64_t gate_first_bad(const uint8_t *line, size_t line_len, const uint8_t *state, size_t state_len);
 

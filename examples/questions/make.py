@@ -15,7 +15,7 @@ import sys
 
 HOME = pathlib.Path(__file__).resolve().parent
 # The state area of L and of every line of at most 96 objects; that of a longer line; the least answer area.
-STATE_BYTES, STATE_BYTES_WIDE, ANSWER_BYTES = 1728, 3360, 128
+STATE_BYTES, STATE_BYTES_WIDE, ANSWER_BYTES = 1744, 3376, 128
 # Where the state area has the contents of object 1.
 FIRST_CONTENT = 64 + 16 + 16 + 1
 
@@ -45,7 +45,7 @@ def fresh(length=STATE_BYTES):
 
 # File L with a ring: value 1 reads and writes object 2, card 1's own, and puts value 3 there.
 RING = line(values=[[1, 2, 3, 3]] + VALUES[1:])
-CREATE_1, CREATE_2, DESTROY_1, GREEN_1 = [5, 1], [5, 2], [6, 1], [13, 1]
+CREATE_1, CREATE_2, DESTROY_1, GREEN_1, LOCK_1 = [5, 1], [5, 2], [6, 1], [13, 1], [14, 1]
 DRIVER_1_IN, CARD_1_IN, CARD_2_IN, OBJECT_5_IN = [7, 1, 1], [8, 1, 1], [8, 2, 2], [9, 1, 1, 5]
 READY = [CREATE_1, CREATE_2, DRIVER_1_IN, CARD_1_IN, CARD_2_IN, OBJECT_5_IN]
 LINES = {
@@ -58,8 +58,8 @@ LINES = {
     6: (line(hardwired=[2, 2]), "file L, but card 1's hard-wired value is 2, which names object 4 of card 2"),
 }
 CALLS = {
-    7: (fresh(STATE_BYTES_WIDE), ANSWER_BYTES, "a state area of 3,360 bytes, which a line of over 96 objects needs; L "
-        "has six, and needs 1,728"),
+    7: (fresh(STATE_BYTES_WIDE), ANSWER_BYTES, f"a state area of {STATE_BYTES_WIDE:,} bytes, which a line of over 96 "
+        f"objects needs; L has six, and needs {STATE_BYTES:,}"),
     8: (fresh(), ANSWER_BYTES - 1, "an answer area of 127 bytes"),
     9: (fresh(), ANSWER_BYTES, "a state area of another line: card 1's hard-wired descriptor holds 2, in L it is 1"),
 }
@@ -83,6 +83,7 @@ SESSIONS = {
          "brought in before object 5, which value 3 writes"),
     22: ([GREEN_1, DRIVER_1_IN, CARD_1_IN, [1, 1, 1, 2, 0, 5]], "driver 1 writes value 5 to object 2 in a green zone: "
          "it puts value 4 into object 2, and no value there may write a transfer descriptor"),
+    23: ([CREATE_1, LOCK_1, CARD_1_IN], "card 1 is brought in while its padlock hangs"),
 }
 # The lines of sessions that are not over L.
 SESSION_LINES = {21: RING}

@@ -18,7 +18,7 @@ KINDS_CODE = "crates/writer/src/lib.rt"
 CODED = "coded w = kindOfAnswer w * kindUnit + numberOfAnswer w"
 # What crates/operation calls what the planner's tables call otherwise.
 FAMILIES = {"Write": "write", "Copy": "read", "Create": "create", "Destroy": "destroy", "Activate": "activate",
-            "Deactivate": "deactivate"}
+            "Deactivate": "deactivate", "Lock": "lock", "Unlock": "unlock"}
 ACTORS = {"Driver": "driver", "Device": "card", "External": "nobody"}
 READERS = {"Item": "who, items", "Pair": "who, pairs", "read_partition": "where", "read_activation": "who, where",
            "Object": "where, objects", "read_deactivation": "who"}

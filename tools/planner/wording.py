@@ -68,6 +68,8 @@ CODES = {code.number: code for code in (
     Code(11, "deactivate", DEVICE, ("who",), "deactivate card {who}"),
     Code(12, "deactivate", NOBODY, ("where", "objects"), "deactivate from {where}: {what}"),
     Code(13, "create green", NOBODY, ("where",), "create green {partition}"),
+    Code(14, "lock", DEVICE, ("who",), "lock card {who}"),
+    Code(15, "unlock", DEVICE, ("who",), "unlock card {who}"),
 )}
 # end codes
 
@@ -117,6 +119,7 @@ QUESTIONS = {
     20: "Is what leaves out of reach of every card that stays?",
     21: "With this card brought in, is every card kept inside its partition?",
     22: "Does each stored value keep to the green zone, name nothing hard-wired, and write no transfer descriptor?",
+    23: "Is the card locked or unlocked as it must be?",
 }
 # Where a question is put in other words for some codes.
 QUESTIONS_BY_CODE = {
@@ -125,8 +128,13 @@ QUESTIONS_BY_CODE = {
     (16, 7): "Is what is brought in inactive?",
     (16, 8): "Is what is brought in inactive?",
     (16, 9): "Is what is brought in inactive?",
+    (16, 14): "Is the card inactive that is locked?",
+    (16, 15): "Is the card inactive that is unlocked?",
     (17, 12): "Are all objects in the partition named?",
     (22, 8): "Does the card's hard-wired value write no transfer descriptor, as a green zone asks?",
+    (23, 8): "Is the card that is brought in free of a padlock?",
+    (23, 14): "Is the card that is locked free of a padlock until now?",
+    (23, 15): "Does a padlock hang on the card that is unlocked?",
 }
 # Where it is put in other words for what is in a green zone.
 QUESTIONS_IN_GREEN = {

@@ -39,4 +39,10 @@ pub const DEACTIVATE_OBJECTS: u8 = 12;
 
 /// Create a green zone: a partition in which no card may write a descriptor. Then partition.
 pub const CREATE_GREEN_PARTITION: u8 = 13;
+
+/// Lock a card: a padlock hangs on it, and nothing brings it in. Then card.
+pub const LOCK_CARD: u8 = 14;
+
+/// Unlock a card: its padlock is taken off. Then card.
+pub const UNLOCK_CARD: u8 = 15;
 // end codes

@@ -30,10 +30,13 @@ pub use rewriting::RewriteError;
 
 // begin sizes: made by tests/tables from tables/numbers.ini
 /// The length of the state area of a line of at most 96 objects.
-pub const STATE_BYTES: usize = 1728;
+pub const STATE_BYTES: usize = 1744;
 
 /// The length of the state area of a line of more objects, at most 192; no area is longer.
-pub const STATE_BYTES_WIDE: usize = 3360;
+pub const STATE_BYTES_WIDE: usize = 3376;
+
+/// The lock bytes, a card's each, with which a state area of either length ends.
+pub const LOCK_BYTES: usize = 16;
 
 /// The least length of an answer area.
 pub const ANSWER_BYTES: usize = 128;
@@ -132,8 +135,8 @@ pub fn operate(line: &[u8], state: &mut [u8], record: &[u8], answer: &mut [u8]) 
 /// of the area are refused by questions 1 to 7. Nothing is changed.
 ///
 /// `None` is that no record breaks a rule, and not that the state is well formed: where `operate` is refused by 9 all
-/// the same, the fault is in the bytes of partitions, drivers or cards. An answer of a kind that this package does not
-/// know is a `Refusal`, as of `state_bytes`.
+/// the same, the fault is in the bytes of partitions, drivers, cards or locks. An answer of a kind that this package
+/// does not know is a `Refusal`, as of `state_bytes`.
 ///
 /// ```
 /// use sorter_gate::{ANSWER_BYTES, STATE_BYTES, first_bad, fresh, operate};

@@ -5,14 +5,14 @@ use core::fmt::{self, Display, Formatter};
 
 /// What it means that question 1, 2, .. is answered with no.
 // begin texts: made by tests/tables from tables/questions.ini
-const TEXTS: [&str; 22] = [
+const TEXTS: [&str; 23] = [
     "line file: a number's last byte is missing",
     "line file: a number has more than three bytes, is not in the shortest form, or is above 65,535",
     "line file: a number is out of its field's range",
     "line file: bytes are left over",
     "line file: a card has not exactly one kind 4 object, or a kind 4 object has no card as owner",
     "line file: a hard-wired value names an object that is not its card's, or one of kind 4",
-    "the state area has another length than the line needs: 1,728 or, over 96 objects, 3,360 bytes",
+    "the state area has another length than the line needs: 1,744 or, over 96 objects, 3,376 bytes",
     "the answer area has fewer than 128 bytes",
     "the state is not well formed for this line file",
     "the record cannot be read to its last byte",
@@ -21,13 +21,14 @@ const TEXTS: [&str; 22] = [
     "kinds do not fit",
     "the partition was used before, or does not exist",
     "something is in the partition that is to be destroyed",
-    "what is brought in is active, or what acts or leaves is not",
+    "what is brought in, locked or unlocked is active, or what acts or leaves is not",
     "an object is not in the driver's partition, or not in the one named",
     "a card's transfer is not described by what it reads now",
     "a chain of descriptor writes would lead a card out of its partition",
     "an active card can reach an object that would leave, or a descriptor that stays in its green zone names it",
     "with this card brought in, a chain of descriptor writes would lead a card out of its partition",
     "a value stored in a green zone names what it may not, or a card's hard-wired value writes a descriptor there",
+    "the card to be brought in or locked is locked, or the one to be unlocked is not",
 ];
 // end texts
 
@@ -94,6 +95,6 @@ mod tests {
             assert_eq!((refusal.number(), refusal.text(), refusal.is_known()), (number, UNKNOWN, false));
         }
         assert_eq!(Refusal::check(0), Ok(()));
-        assert_eq!(Refusal::check(22).map_err(Refusal::text), Err(TEXTS[21]));
+        assert_eq!(Refusal::check(23).map_err(Refusal::text), Err(TEXTS[22]));
     }
 }
