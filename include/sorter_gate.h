@@ -26,10 +26,10 @@ extern "C" {
 /* The version of this header and of the archive beside it; the number is for comparing, a later version's is larger. */
 /* begin version: made by tests/tables from tables/release.ini */
 #define SORTER_GATE_VERSION_MAJOR 0
-#define SORTER_GATE_VERSION_MINOR 1
+#define SORTER_GATE_VERSION_MINOR 2
 #define SORTER_GATE_VERSION_PATCH 0
-#define SORTER_GATE_VERSION_NUMBER 1000
-#define SORTER_GATE_VERSION "0.1.0"
+#define SORTER_GATE_VERSION_NUMBER 2000
+#define SORTER_GATE_VERSION "0.2.0"
 /* end version */
 
 /* begin sizes: made by tests/tables from tables/numbers.ini */
