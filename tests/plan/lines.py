@@ -102,6 +102,17 @@ def all_green_visit(config, seed):
     return [replace(move, row=row) for row, move in enumerate(moves, 2)]
 
 
+def lock_visit(config, seed):
+    """A random visit in which cards leave, are locked and unlocked, and are wanted meanwhile, some of them in turn."""
+    rng, moves = random.Random(f"lock {seed}"), random_visit(config, seed)
+    for _ in range(30):
+        card = rng.choice(list(config.devices))
+        codes = rng.choice(((11, 14), (14,), (14,), (15,), (15, 8), (8,), (11, 14, 8, 15, 8), (10, 14)))
+        moves += [Move(0, code, card if code != 10 else rng.choice(list(config.drivers)),
+                       rng.randint(1, PARTITIONS) if code == 8 else 0) for code in codes]
+    return [replace(move, row=row) for row, move in enumerate(moves, 2)]
+
+
 def mailbox_line():
     """Two cards with rings: C1's puts a job into an external descriptor, C2's has C2 do what it finds there."""
     ring_1, ring_2, mailbox, lamp = 2, 4, 5, 6

@@ -52,12 +52,15 @@ FAULTS = [
     ("partitions.csv", "Test bench,2", "7,2",
      3, "partition", "'7' is a number"),
     ("visit.csv", "create,,Test bench", "make,,Test bench",
-     3, "operation", "'make' is none of: write, read, create, create green, destroy, activate, deactivate\n"),
+     3, "operation", "'make' is none of: write, read, create, create green, destroy, activate, deactivate, "
+     "lock, unlock\n"),
     ("visit.csv", "create,,Test bench", "craete,,Test bench",
-     3, "operation", "'craete' is none of: write, read, create, create green, destroy, activate, deactivate; did you "
+     3, "operation", "'craete' is none of: write, read, create, create green, destroy, activate, deactivate, "
+     "lock, unlock; did you "
      "mean 'create'?\n"),
     ("visit.csv", "deactivate,Scale,,", "De-activate,Scale,,",
-     11, "operation", "'De-activate' is none of: write, read, create, create green, destroy, activate, deactivate; did "
+     11, "operation", "'De-activate' is none of: write, read, create, create green, destroy, activate, "
+     "deactivate, lock, unlock; did "
      "you mean 'deactivate'?\n"),
     ("visit.csv", "create,,Test bench", "create,Scale,Test bench",
      3, "who", "must be empty"),

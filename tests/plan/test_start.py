@@ -5,12 +5,13 @@ from itertools import permutations
 from pathlib import Path
 
 from common import PROGRAM, ROOT, InFolder, plan
+from layout import AREA, LOCKS_FROM, WIDE_AREA
 from lines import (all_green_visit, data_of, green_visit, job_line, random_line, random_visit, ring_line, ring_visit,
                    wide_line)
 from planner import pack
 from planner import wording as w
-from planner.area import (CARDS_AT, DIGEST_BYTES, DRIVERS_AT, MARK, OBJECTS_AT, RECORD, SMALL_ROOM, area_bytes,
-                          differences, digest, length_for, read_area)
+from planner.area import (CARDS_AT, DIGEST_BYTES, DRIVERS_AT, MARK, OBJECTS_AT, RECORD, area_bytes, differences, digest,
+                          read_area)
 from planner.book import follow, fresh
 from planner.config import Config, Device, Entry, Object, Value
 from planner.judged import judge_folder, judge_moves
@@ -18,9 +19,11 @@ from planner.start import bring_up
 from planner.visit import Item, Move
 
 TODAY = Path("examples/today")
-AREA_BYTES = length_for(SMALL_ROOM)
+WRAPPED = 24
 # What is said of a stored file of another length than the example's line has.
-NEEDED = "has {}; the state area of this line has 1,728, and 1,752 as the example controller stores it"
+NEEDED = (f"has {{}}; the state area of this line has {AREA:,}, and {AREA + WRAPPED:,} as the example controller stores "
+          "it")
+ANOTHER = ", as for a line of more than 96 objects"
 # A byte of the example's area, what it is set to, and what is said of it.
 FAULTS = (
     (1, 4, "byte 1: 4 is no standing of a partition"),
@@ -40,7 +43,7 @@ FAULTS = (
     (OBJECTS_AT + RECORD + 2, 1, "byte 114, object 2: what Diverter ring"),
     (OBJECTS_AT + 13 * RECORD, 2, "byte 317, object 14: Barcode table (external data) is in partition Test bench, "
                                   "which does not exist in the area"),
-    (AREA_BYTES - 1, 1, "byte 1711, object 96: the tables have no such object, and the area has something there"),
+    (LOCKS_FROM - 1, 1, "byte 1711, object 96: the tables have no such object, and the area has something there"),
 )
 
 
@@ -211,7 +214,7 @@ class Today(InFolder):
             (TODAY / name).unlink()
         self.assertEqual(plan("start", TODAY, TODAY / "state.bin"), (
             0, "Made: examples/today/bringup.csv, 7 moves: 7 accepted, 0 refused.\nThe state after it is that of "
-               "examples/today/state.bin, byte for byte (1,728 bytes).\n", ""))
+               f"examples/today/state.bin, byte for byte ({AREA:,} bytes).\n", ""))
         status, text, _ = plan("check", TODAY)
         self.assertEqual(status, 1)
         self.same_as_golden("today.txt", text)
@@ -228,19 +231,17 @@ class Today(InFolder):
 
     def test_as_the_example_controller_stores_it(self):
         whole = MARK + digest((TODAY / "line.bin").read_bytes()) + self.area
-        other = MARK + digest(b"another") + self.area
+        other, wider = MARK + digest(b"another") + self.area, bytes(WIDE_AREA - AREA)
         self.assertEqual(self.start(whole + digest(whole))[0], 0)
         for data, said in ((whole + digest(other), "is damaged: its checksum does not fit"),
                            (other + digest(other), "was stored with another line file than these tables make"),
-                           (other[1:] + digest(other), NEEDED.format("1,751 bytes")),
-                           (b"x" + other[1:] + digest(other), "does not begin with SGSTATE1, as the example "
+                           (other[1:] + digest(other), NEEDED.format(f"{AREA + WRAPPED - 1:,} bytes")),
+                           (b"x" + other[1:] + digest(other), f"does not begin with {MARK.decode()}, as the example "
                                                               "controller stores it"),
-                           (self.area[1:], NEEDED.format("1,727 bytes")),
-                           (self.area + bytes(1), NEEDED.format("1,729 bytes")),
-                           (self.area + bytes(1632), NEEDED.format("3,360 bytes, as for a line of more than 96 "
-                                                                   "objects")),
-                           (whole + digest(whole) + bytes(1632), NEEDED.format("3,384 bytes, as for a line of more "
-                                                                               "than 96 objects"))):
+                           (self.area[1:], NEEDED.format(f"{AREA - 1:,} bytes")),
+                           (self.area + bytes(1), NEEDED.format(f"{AREA + 1:,} bytes")),
+                           (self.area + wider, NEEDED.format(f"{WIDE_AREA:,} bytes{ANOTHER}")),
+                           (whole + digest(whole) + wider, NEEDED.format(f"{WIDE_AREA + WRAPPED:,} bytes{ANOTHER}"))):
             self.assertEqual(self.start(data), (2, "", f"plan: stored: {said}\n"))
 
     def test_an_area_that_is_none_of_this_line(self):
@@ -255,7 +256,7 @@ class Today(InFolder):
         """Beside a checksum that does not fit the objects are named too, if the file is of this line."""
         for line, more in (((TODAY / "line.bin").read_bytes(), True), (b"another", False)):
             data = bytearray(MARK + digest(line) + self.area + digest(MARK + digest(line) + self.area))
-            data[-DIGEST_BYTES - 1] = 1
+            data[-DIGEST_BYTES - 1 - (AREA - LOCKS_FROM)] = 1
             self.assertEqual(self.start(data), (2, "", "plan: stored: is damaged: its checksum does not fit\n"
                                                 + f"plan: stored: {FAULTS[-1][2]}\n" * more))
 
@@ -321,7 +322,7 @@ class Today(InFolder):
 
     def test_an_area_of_a_hard_wired_descriptor_of_nobody(self):
         config = Config({}, {}, {1: Object("O1", w.HARDCODED, w.EXTERNAL, 0)}, {})
-        self.assertEqual(read_area(config, bytes(AREA_BYTES)).contents, {1: 0})
+        self.assertEqual(read_area(config, bytes(AREA)).contents, {1: 0})
 
 
 class Told(InFolder):

@@ -1,4 +1,4 @@
-"""Lines of more than 96 objects: numbers of two bytes, state areas of 3,360 bytes, and the words of a small line.
+"""Lines of more than 96 objects: numbers of two bytes, the longer state areas, and the words of a small line.
 
 The example is made wide by tables before its own objects, which then have the largest numbers.
 """
@@ -7,6 +7,10 @@ from pathlib import Path
 
 import sorters
 from common import GOLDEN, PROGRAM, InFolder, plan
+from layout import AREA as SMALL_AREA
+from layout import RECORD as RECORD_BYTES
+from layout import RECORDS_FROM as OBJECTS_FROM
+from layout import LOCKS_FROM, WIDE_AREA, WIDE_LOCKS_FROM
 from lines import WIDE
 from planner import pack
 from planner import wording as w
@@ -18,9 +22,10 @@ from planner.unpack import read_line_bytes, read_session_bytes
 from test_workbooks import SUFFIXES, needs_libraries
 
 OWN = 15
-SMALL_AREA, WIDE_AREA, OBJECTS_FROM, RECORD_BYTES = 1728, 3360, 96, 17
+WRAPPED = 24
 # What is said of a stored file of another length than a wide line has.
-NEEDED = "has {}; the state area of this line has 3,360, and 3,384 as the example controller stores it"
+NEEDED = (f"has {{}}; the state area of this line has {WIDE_AREA:,}, and {WIDE_AREA + WRAPPED:,} as the example "
+          "controller stores it")
 ANOTHER = ", as for a line of at most 96 objects"
 
 
@@ -157,7 +162,7 @@ class Areas(Widened):
             self.assertEqual(read_area(config, area), fresh(config))
 
     def test_the_last_record(self):
-        """Object 192 stands in the last seventeen bytes, its partition first; the others are where they were."""
+        """Object 192 stands right before the lock bytes, its partition first; the others are where they were."""
         config = Config(objects={n: Object(f"O{n}", w.DATA, w.EXTERNAL, 0) for n in range(1, 193)})
         state = fresh(config)
         state.created[3] = "row 2"
@@ -167,14 +172,15 @@ class Areas(Widened):
         for n in (1, 97, 192):
             at = OBJECTS_FROM + RECORD_BYTES * (n - 1)
             self.assertEqual(area[at:at + RECORD_BYTES], bytes([3, *range(n, n + 16)]))
-        self.assertEqual((len(area), sum(map(bool, area))), (at + RECORD_BYTES, 1 + 3 * RECORD_BYTES))
+        self.assertEqual((at + RECORD_BYTES, len(area), sum(map(bool, area))),
+                         (WIDE_LOCKS_FROM, WIDE_AREA, 1 + 3 * RECORD_BYTES))
 
     def stored(self, data):
         Path("stored").write_bytes(data)
         return plan("start", "examples/visit", "stored", "--replace")
 
     def test_a_bring_up(self):
-        """From what a controller stores of a wide line, plain or with 24 bytes more, byte for byte."""
+        """From what a controller stores of a wide line, plain or with its mark and digests, byte for byte."""
         for count in WIDE:
             self.widen(count)
             judged = judge_folder(PROGRAM, self.visit)
@@ -184,18 +190,22 @@ class Areas(Widened):
             for data in (area, whole + digest(whole)):
                 status, text, complaints = self.stored(data)
                 self.assertEqual((status, complaints), (0, ""), count)
-                self.assertIn(" 0 refused.\nThe state after it is that of stored, byte for byte (3,360 bytes).\n", text)
+                self.assertIn(" 0 refused.\nThe state after it is that of stored, byte for byte "
+                              f"({WIDE_AREA:,} bytes).\n", text)
             (self.visit / "bringup.csv").unlink()
 
     def test_other_lengths(self):
-        """Those of small lines are known as such; a byte more or less is not."""
+        """Those of small lines, older ones too, are known as such; a byte more or less is not."""
         self.widen(97)
-        for count, said in ((1728, f"1,728 bytes{ANOTHER}"), (1752, f"1,752 bytes{ANOTHER}"), (3359, "3,359 bytes"),
-                            (3361, "3,361 bytes"), (3383, "3,383 bytes"), (3385, "3,385 bytes"), (0, "0 bytes")):
-            self.assertEqual(self.stored(bytes(count)), (2, "", f"plan: stored: {NEEDED.format(said)}\n"))
+        small = [length + more for length in (SMALL_AREA, LOCKS_FROM) for more in (0, WRAPPED)]
+        wide = [length + more for length in (WIDE_AREA, WIDE_LOCKS_FROM) for more in (0, WRAPPED)]
+        for count, words in [(count, ANOTHER) for count in small] + [(count + by, "") for count in wide
+                                                                     for by in (-1, 1)] + [(0, "")]:
+            said = NEEDED.format(f"{count:,} bytes{words}")
+            self.assertEqual(self.stored(bytes(count)), (2, "", f"plan: stored: {said}\n"))
 
     def test_absent_objects(self):
-        """A byte in the record behind the last object, in the last record, and the last byte of all."""
+        """A byte in the record behind the last object, in the last record, and the last byte of all records."""
         for count in WIDE[:-1]:
             self.widen(count)
             judged = judge_folder(PROGRAM, self.visit)

@@ -142,10 +142,10 @@ class Written(Books):
                       for at, name in enumerate(words[0])}
             self.assertEqual(column["owners"], german.DRIVERS + german.CARDS + ["external"])
             self.assertEqual(column["operations"], ["write", "read", "create", "create green", "destroy", "activate",
-                                                    "deactivate"])
+                                                    "deactivate", "lock", "unlock"])
             self.assertEqual(column["partitions"], ["Halle Süd", "Prüfplatz"])
             self.assertEqual(self.choices(path), {
-                "visit": {"A": "C2:C8", "B": "E2:E8", "C": "H2:H3"}, "cards": {"B": "F2:F12"},
+                "visit": {"A": "C2:C10", "B": "E2:E8", "C": "H2:H3"}, "cards": {"B": "F2:F12"},
                 "objects": {"B": "A2:A5", "C": "D2:D9"}, "values": {"B": "G2:G40", "C": "B2:B4", "D": "F2:F12"}})
 
     def choices(self, path):

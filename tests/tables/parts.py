@@ -15,8 +15,8 @@ ACTORS = {"driver": "DRIVER", "card": "DEVICE", "nobody": "NOBODY"}
 # What a record's field is called in docs/CONTROLLER.md.
 FIELDS = {"where": "partition", "items": "count, items", "pairs": "count, pairs: source, destination or 0",
           "objects": "count, objects"}
-# The questions that tools/planner calls by name: those that a chain or an entry explains.
-PLAN_CONSTANTS = ("OUTSIDE", "IN_REACH", "ENTERS_OUTSIDE", "GREEN_RULE")
+# The questions that tools/planner calls by name: those that a chain, an entry or a padlock explains.
+PLAN_CONSTANTS = ("OUTSIDE", "IN_REACH", "ENTERS_OUTSIDE", "GREEN_RULE", "LOCKED")
 # The papers' numbers of kinds, owners' classes and modes, for the line of the examples.
 KINDS = {1: "transfer descriptor", 2: "function descriptor", 3: "data", 4: "hard-wired descriptor"}
 OWNERS = {0: "external", 1: "driver", 2: "card"}

@@ -17,8 +17,13 @@ SMALL_ROOM, WIDE_ROOM = w.LIMITS["objects of a small line"], w.LIMITS["objects"]
 # The standings of a partition. One that is destroyed no longer shows whether it was green.
 NEVER, EXISTING, DESTROYED, GREEN = 0, 1, 2, 3
 STANDING_WORDS = {NEVER: "never used", EXISTING: "there", DESTROYED: "destroyed", GREEN: "there as a green zone"}
-# As the example controller stores an area: a mark, a digest of the line file, the area, a digest of all before.
-MARK = b"SGSTATE1"
+# The lock bytes stand behind the object records, one for each card that there may be.
+LOCK_BYTES = w.LIMITS["cards"]
+OPEN, LOCKED = 0, 1
+LOCK_WORDS = {False: "unlocked", True: "locked"}
+# As the example controller stores an area: a mark, a digest of the line file, the area, a digest of all before. Areas
+# of before there were locks end with the records, and were stored with the older mark.
+MARK, OLDER_MARK = b"SGSTATE2", b"SGSTATE1"
 DIGEST_BYTES = 8
 WRAPPING = len(MARK) + 2 * DIGEST_BYTES
 IN_AREA = "in the area"
@@ -41,32 +46,48 @@ def room(config):
     return SMALL_ROOM if len(config.objects) <= SMALL_ROOM else WIDE_ROOM
 
 
+def locks_at(records):
+    """Where the lock bytes of an area of so many object records begin; an older area ends there."""
+    return OBJECTS_AT + RECORD * records
+
+
 def length_for(records):
     """How long an area of so many object records is."""
-    return OBJECTS_AT + RECORD * records
+    return locks_at(records) + LOCK_BYTES
 
 
 def other_length(config, count):
     """What is said of a file whose length is not that of the line's area; those of all lines are known."""
     own, known = length_for(room(config)), {}
     for records, words in ((SMALL_ROOM, f"at most {SMALL_ROOM}"), (WIDE_ROOM, f"more than {SMALL_ROOM}")):
-        known.update(dict.fromkeys((length_for(records), length_for(records) + WRAPPING), words))
+        known.update({length + more: words for length in (length_for(records), locks_at(records))
+                      for more in (0, WRAPPING)})
     sort = f", as for a line of {known[count]} objects" if count in known else ""
     return (f"has {count:,} bytes{sort}; the state area of this line has {own:,}, and {own + WRAPPING:,} as the "
             "example controller stores it")
 
 
+def is_older(config, data):
+    """Whether a stored file has the length of one of before there were locks."""
+    return len(data) in (locks_at(room(config)), locks_at(room(config)) + WRAPPING)
+
+
 def unwrap(data, config, line):
-    """The area in a stored file: the plain area, or one with the example controller's mark and checksums."""
-    length = length_for(room(config))
-    if len(data) == length:
-        return data
-    if len(data) != length + WRAPPING:
+    """The area in a stored file: the plain area, or one with the example controller's mark and checksums.
+
+    One of before there were locks is taken with zeros for them: no padlock hangs in it.
+    """
+    length, older = length_for(room(config)), is_older(config, data)
+    own_length = length - LOCK_BYTES if older else length
+    if len(data) == own_length:
+        return data.ljust(length, b"\0")
+    if len(data) != own_length + WRAPPING:
         raise AreaError(other_length(config, len(data)))
-    if not data.startswith(MARK):
-        raise AreaError(f"does not begin with {MARK.decode()}, as the example controller stores it")
-    body = data[len(MARK):-DIGEST_BYTES]
-    own, area = body[:DIGEST_BYTES] == digest(line), body[DIGEST_BYTES:]
+    mark = OLDER_MARK if older else MARK
+    if not data.startswith(mark):
+        raise AreaError(f"does not begin with {mark.decode()}, as the example controller stores it")
+    body = data[len(mark):-DIGEST_BYTES]
+    own, area = body[:DIGEST_BYTES] == digest(line), body[DIGEST_BYTES:].ljust(length, b"\0")
     if digest(data[:-DIGEST_BYTES]) != data[-DIGEST_BYTES:]:
         # It is not to be used, whatever is in it; but what shows of the damage may help.
         shown = take_area(config, area)[1] if own else []
@@ -105,6 +126,7 @@ def take_area(config, data):
     for number in range(1, room(config) + 1):
         at = OBJECTS_AT + RECORD * (number - 1)
         take_object(config, state, number, data[at:at + RECORD], at, faults)
+    take_locks(config, state, data, faults)
     return state, faults
 
 
@@ -151,6 +173,20 @@ def take_object(config, state, number, record, at, faults):
                       f"'{config.value(config.devices[one.owner].hardcoded)}'")
 
 
+def take_locks(config, state, data, faults):
+    """The cards on which a padlock hangs: cards of the line, in no partition."""
+    for number, at in enumerate(range(locks_at(room(config)), len(data)), 1):
+        name, place = config.actor(w.DEVICE, number), state.devices.get(number, NONE)
+        if number not in config.devices and data[at]:
+            faults.append(f"byte {at}: the tables have no {w.OWNERS[w.DEVICE]} {number}, and the area has a lock of it")
+        elif data[at] not in (OPEN, LOCKED):
+            faults.append(f"byte {at}: {data[at]} is no lock of {name}")
+        elif data[at] == LOCKED and place:
+            faults.append(f"byte {at}: {name} is locked, and is {finding.place(config, place)}")
+        elif data[at] == LOCKED:
+            state.locked[number] = IN_AREA
+
+
 def standing_of(state, number):
     """The standing byte of a partition."""
     if number not in state.created:
@@ -170,6 +206,8 @@ def area_bytes(config, state):
         at = OBJECTS_AT + RECORD * (number - 1)
         raw = bytes([content]) if config.is_descriptor(number) else content
         data[at:at + 1 + len(raw)] = bytes([state.objects[number]]) + raw
+    for number in state.locked:
+        data[locks_at(room(config)) + number - 1] = LOCKED
     return bytes(data)
 
 
@@ -188,6 +226,8 @@ def differences(config, wanted, made):
         crew = wanted.drivers if owner_class == w.DRIVER else wanted.devices
         found += [(config.actor(owner_class, n),
                    *(finding.place(config, state.actor(owner_class, n)) for state in (wanted, made))) for n in crew]
+    found += [(config.actor(w.DEVICE, n), *(LOCK_WORDS[n in state.locked] for state in (wanted, made)))
+              for n in wanted.devices]
     for n, one in config.objects.items():
         if one.owner_class == w.EXTERNAL:
             found.append((config.describe(n),

@@ -10,7 +10,8 @@ NONE = 0
 class State:
     """Where all things are and what they hold; partitions by the spots that created and destroyed them.
 
-    `green` has those of the created ones that were created as green zones.
+    `green` has those of the created ones that were created as green zones. `locked` has the cards on which a padlock
+    hangs, by the spots that hung it, and `unlocked` those from which it was taken off since, likewise.
     """
     created: dict = field(default_factory=dict)
     destroyed: dict = field(default_factory=dict)
@@ -20,6 +21,8 @@ class State:
     contents: dict = field(default_factory=dict)
     moved: dict = field(default_factory=dict)
     green: dict = field(default_factory=dict)
+    locked: dict = field(default_factory=dict)
+    unlocked: dict = field(default_factory=dict)
 
     def copy(self):
         return State(*(dict(getattr(self, column.name)) for column in fields(self)))
@@ -72,6 +75,8 @@ def follow(config, state, move):
         for pair in move.what:
             if pair.destination:
                 after.contents[pair.destination] = state.contents[pair.source]
+    elif move.code in w.LOCKS | w.UNLOCKS:
+        turn_key(after, move)
     else:
         relocate(config, after, move)
     return after
@@ -83,6 +88,13 @@ def create(after, move):
     after.green.pop(move.where, None)
     if move.code in w.GREENS:
         after.green[move.where] = move.spot
+
+
+def turn_key(after, move):
+    """A padlock is hung on a card, or taken off it; nothing else changes."""
+    hung, off = (after.locked, after.unlocked) if move.code in w.LOCKS else (after.unlocked, after.locked)
+    hung[move.who] = move.spot
+    off.pop(move.who, None)
 
 
 def relocate(config, after, move):

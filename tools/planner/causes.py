@@ -16,7 +16,9 @@ from .reach import found_chain
 
 PARTITION, EMPTY, ACTIVE, PLACE, DESCRIBED = 14, 15, 16, 17, 18
 # The questions that look at a state, in the order in which they are put.
-ON_STATE = (PARTITION, EMPTY, ACTIVE, PLACE, DESCRIBED, w.OUTSIDE, w.IN_REACH, w.GREEN_RULE, w.ENTERS_OUTSIDE)
+ON_STATE = (PARTITION, EMPTY, ACTIVE, PLACE, DESCRIBED, w.OUTSIDE, w.IN_REACH, w.LOCKED, w.GREEN_RULE,
+            w.ENTERS_OUTSIDE)
+PADLOCK = "padlock"
 # Of the causes, so many of the latest are followed.
 MOST_FOLLOWED = 64
 
@@ -97,6 +99,7 @@ def asked(number, move):
             ACTIVE: move.code not in w.CREATES | w.DESTROYS,
             PLACE: transfers and move.actor == w.DRIVER or move.code in w.DEACTIVATES and move.actor == w.NOBODY,
             DESCRIBED: transfers and move.actor == w.DEVICE,
+            w.LOCKED: move.code in w.OF_INACTIVE and move.actor == w.DEVICE,
             w.GREEN_RULE: move.code in w.ACTIVATES and move.actor == w.DEVICE}.get(number, False)
 
 
@@ -108,8 +111,11 @@ def failures(config, state, move, number):
         bad = move.where in state.created if move.code in w.CREATES else not state.exists(move.where)
         return frozenset([(("partition", move.where),)] if bad else [])
     if number == ACTIVE and move.actor != w.NOBODY:
-        bad = (state.actor(move.actor, move.who) != NONE) == (move.code in w.ACTIVATES)
+        bad = (state.actor(move.actor, move.who) != NONE) == (move.code in w.OF_INACTIVE)
         return frozenset([((move.actor, move.who),)] if bad else [])
+    if number == w.LOCKED:
+        bad = (move.who in state.locked) != (move.code in w.UNLOCKS)
+        return frozenset([((PADLOCK, move.who),)] if bad else [])
     if number in w.BY_CHAIN or number == w.GREEN_RULE:
         return last_failure(config, state, move, number)
     return frozenset(tuple(finding.things) for finding in reasons.find(config, state, move, number))
@@ -121,6 +127,8 @@ def since(state, failed):
     for sort, number in (thing for things in failed for thing in things if isinstance(thing, tuple)):
         if sort == "partition":
             rows[(sort, number)] = state.created.get(number), state.destroyed.get(number)
+        elif sort == PADLOCK:
+            rows[(sort, number)] = state.locked.get(number), state.unlocked.get(number)
         else:
             rows[(sort, number)] = state.moved.get((w.EXTERNAL if sort == "object" else sort, number))
     return rows

@@ -77,13 +77,29 @@ def others_after(rows, order, target, refused):
 
 
 def left_out(order, step, steps):
-    """The row left out, if another one that is accepted does the very same."""
+    """The row left out, if another one that is accepted does the very same.
+
+    A `lock` or `unlock` is, only where the padlock hangs already, or none does; and no card that a padlock keeps out.
+    """
+    if (step.answer == w.LOCKED) != (step.move.code in w.LOCKS | w.UNLOCKS):
+        return []
     for other in sorted(steps, key=lambda other: abs(other.place - step.place)):
         same = replace(other.move, row=step.move.row, bringup=step.move.bringup) == step.move
         if other.accepted and same:
             return [Change("left out", tuple(one for one in order if one != step.move.row), (
                 f"row {step.move.row} left out: {other.move.spot} does the same, and is accepted",), dropped=1)]
     return []
+
+
+def keeps_padlocks(change, moves, accepted):
+    """Whether a change has every padlock hang as long as the plan has it: it is the protection of who works there.
+
+    No accepted `lock` goes further down, and no `unlock` further up. (No change adds an `unlock`.)
+    """
+    code = moves[change.row].code if change.row in moves else 0
+    if change.sort in ("later", "after"):
+        return code not in w.LOCKS or change.row not in accepted
+    return change.sort not in ("earlier", "first") or code not in w.UNLOCKS
 
 
 def around(change, config, target, before, after=(), text=""):
@@ -100,7 +116,7 @@ def around(change, config, target, before, after=(), text=""):
 def additions(config, step, chain, change):
     """Moves to be put around a refused step, as its question suggests."""
     target = step.move.row
-    makers = {14: create_first, 15: empty_first, 16: (enter_first, leave_first)[step.move.code in w.ACTIVATES],
+    makers = {14: create_first, 15: empty_first, 16: (enter_first, leave_first)[step.move.code in w.OF_INACTIVE],
               17: bring_together, w.IN_REACH: let_go_first, w.GREEN_RULE: bring_named}
     maker = makers.get(step.answer)
     for before, after, text in maker(config, step) if maker else ():
@@ -137,7 +153,7 @@ def empty_first(config, step):
 
 
 def leave_first(config, step):
-    """What is to come in leaves first where it is."""
+    """What is to come in leaves first where it is, and so does a card that is to be locked."""
     state, move = step.before, step.move
     there = [(move.actor, move.who)] if move.actor != w.NOBODY else [(w.EXTERNAL, n) for n in move.what]
     active = [one for one in there if (state.objects[one[1]] if one[0] == w.EXTERNAL else state.actor(*one)) != NONE]

@@ -12,6 +12,14 @@ from .green import rule_findings
 from .reach import reach_findings
 from .visit import Pair
 
+# Why a card is not locked or unlocked in a partition, by the operation.
+OUT_FIRST = {"lock": "; a padlock is hung on a card that is in no partition",
+             "unlock": ", so that no padlock hangs on it"}
+# What would help where a padlock hangs.
+WHOSE_PADLOCK = ("Whoever hung it takes it off, and nobody else: then an 'unlock' stands above this row, and the card "
+                 "can come in.")
+ONE_PADLOCK = "One padlock is kept for a card: an 'unlock' takes it off, whoever else works on the card."
+
 
 def find(config, state, move, answer):
     """The findings for an answer; an empty list if this tool has nothing to say about it."""
@@ -109,17 +117,31 @@ def occupied(config, state, move):
 
 
 def activity(config, state, move):
-    """Who enters must be inactive; who acts or leaves must be active."""
+    """Who enters, is locked or unlocked must be inactive; who acts or leaves must be active."""
     entering = move.code in w.ACTIVATES
     if move.actor != w.NOBODY:
         name, at = config.actor(move.actor, move.who), state.actor(move.actor, move.who)
         things, spot = [(move.actor, move.who)], state.moved.get((move.actor, move.who))
-        if entering:
-            return [Finding(f"{name} is already active in {config.partition(at)}, since {spot}", things)]
+        if move.code in w.OF_INACTIVE:
+            already = "already " if entering else ""
+            return [Finding(f"{name} is {already}active in {config.partition(at)}, since {spot}"
+                            f"{OUT_FIRST.get(w.CODES[move.code].verb, '')}", things)]
         left = f"; it left in {spot}" if spot else ""
         return [Finding(f"{name} is not active{left}", things)]
     return [Finding(f"{config.describe(n)} is {'already ' if entering else ''}{place(config, state.objects[n])}",
                     [("object", n)]) for n in move.named() if (state.objects[n] != NONE) == entering]
+
+
+def padlock(config, state, move):
+    """Of question 23: since when a padlock hangs, or since when none does."""
+    name, things = config.actor(move.actor, move.who), [(move.actor, move.who)]
+    hung, off = state.locked.get(move.who), state.unlocked.get(move.who)
+    if move.code in w.UNLOCKS:
+        text = f"no padlock hangs on {name}; {f'it was taken off in {off}' if off else 'none was hung'}"
+        return [Finding(text, things)]
+    if move.code in w.LOCKS:
+        return [Finding(f"a padlock hangs on {name} already, since {hung}", things, ways=(ONE_PADLOCK,))]
+    return [Finding(f"a padlock hangs on {name}, since {hung}", things, ways=(WHOSE_PADLOCK,))]
 
 
 def elsewhere(config, state, move):
@@ -177,4 +199,5 @@ def transfers(config, state, move):
 
 
 REASONS = {10: unreadable, 11: unknown, 12: twice, 13: kinds, 14: partition_use, 15: occupied, 16: activity,
-           17: elsewhere, 18: undescribed, w.GREEN_RULE: rule_findings, **dict.fromkeys(w.BY_CHAIN, reach_findings)}
+           17: elsewhere, 18: undescribed, w.GREEN_RULE: rule_findings, w.LOCKED: padlock,
+           **dict.fromkeys(w.BY_CHAIN, reach_findings)}

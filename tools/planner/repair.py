@@ -79,7 +79,7 @@ class Search:
         made.sort(key=lambda change: change.distance)
         chosen = {}
         for change in made:
-            if change.order != order:
+            if change.order != order and c.keeps_padlocks(change, self.moves, self.accepted):
                 chosen.setdefault(change.order, change)
         return list(chosen.values())[:self.most * 3 // 4]
 

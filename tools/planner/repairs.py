@@ -9,6 +9,7 @@ from .visit import move_cells, move_words
 
 BAR = 30
 MOVE_COLUMNS = ("operation", "who", "where", "what")
+PADLOCKS = "No change is tried that takes a padlock off, or has one hang for a shorter time: that is for who hung it."
 
 
 class Bar:
@@ -104,6 +105,8 @@ def row_lines(plan, step, found, number, tried):
         lines += repair_lines(plan, place, repair)
     if not found:
         lines.append(f"     None of the {plural(tried, 'change')} tried has it accepted without harm to other rows.")
+    if step.answer == w.LOCKED:
+        lines.append(f"     {PADLOCKS}")
     return lines + [""]
 
 

@@ -8,13 +8,16 @@ comes about that the given state has not.
 
 What is in no partition is brought into a green zone only where no other was ever used. Then all of it was written in
 green zones: it is brought in at once with what its contents name, and whoever names another one leaves before it.
+
+Padlocks are hung last: until then their cards may have to come in for what they kept.
 """
 from . import wording as w
 from .book import NONE, follow, fresh
 from .closure import Closure, leaving_chain, outside_chain
 from .visit import Item, Move
 
-CREATE, CREATE_GREEN, DESTROY = (min(codes) for codes in (w.CREATES - w.GREENS, w.GREENS, w.DESTROYS))
+CREATE, CREATE_GREEN, DESTROY, LOCK = (min(codes) for codes in (w.CREATES - w.GREENS, w.GREENS, w.DESTROYS,
+                                                                w.LOCKS))
 FIRST_ROW = 2
 PASSING = "in passing"
 NO_DRIVER = "the line has no driver, so that nothing can be written"
@@ -176,6 +179,8 @@ def bring_up(config, goal):
         made.add(DESTROY, where=number)
     for number in goal.existing():
         fill(made, number)
+    for number in sorted(goal.locked):
+        made.add(LOCK, number)
     return made
 
 

@@ -3,7 +3,7 @@ from dataclasses import dataclass, replace
 
 from . import disk, pack
 from . import wording as w
-from .area import AreaError, area_bytes, differences, length_for, read_area, room, unwrap
+from .area import AreaError, area_bytes, differences, is_older, length_for, locks_at, read_area, room, unwrap
 from .book_plan import place_of, put_table
 from .judged import Plan, judge_moves
 from .report import plural, refused_whole, sentence, step_lines, wrap
@@ -15,12 +15,16 @@ from .visit import BRINGUP, move_cells
 
 @dataclass(frozen=True)
 class Started:
-    """Where the bring-up is, how it was judged, why it leaves something out, and in what it misses the area."""
+    """Where the bring-up is, how it was judged, why it leaves something out, and in what it misses the area.
+
+    An older area is one of before there were locks.
+    """
     place: str
     plan: Plan
     lost: list
     different: list
     same: bool
+    older: bool = False
 
 
 def start(program, folder, path, again=False):
@@ -51,7 +55,7 @@ def start(program, folder, path, again=False):
         lines = [[str(cell) for cell in row] for row in [COLUMNS[BRINGUP] + (NOTE,)] + rows]
         put_table(folder, BRINGUP, lines, form)
     same = plan.verdict.accepted and area_bytes(config, last) == area
-    return Started(place, plan, made.lost, differences(config, goal, last), same)
+    return Started(place, plan, made.lost, differences(config, goal, last), same, is_older(config, data))
 
 
 def taken_apart(steps, notes):
@@ -73,9 +77,13 @@ def start_lines(started, path, command):
     refused = plan.failed_bringup
     lines = [f"Made: {started.place}, {plural(len(plan.steps), 'move')}: {len(plan.steps) - len(refused)} accepted, "
              f"{len(refused)} refused."]
+    records = room(plan.config)
+    if started.older:
+        lines.append(f"{path} was stored before there were locks: its area has {locks_at(records):,} bytes, and no "
+                     "card in it is locked.")
     if started.same:
-        return lines + [f"The state after it is that of {path}, byte for byte "
-                        f"({length_for(room(plan.config)):,} bytes)."]
+        behind = ", with the zeros that this version has behind it" if started.older else ""
+        return lines + [f"The state after it is that of {path}, byte for byte ({length_for(records):,} bytes{behind})."]
     for step in refused:
         lines += [""] + step_lines(plan, step, f"row {step.move.row} (move {step.place})", command)
     lines += ["", f"The state after it is not that of {path}. It should be:"]

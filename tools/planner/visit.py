@@ -94,12 +94,14 @@ def read_actor(line, row):
 
 
 def find_code(row, verb, actor):
-    codes = [code for code in w.CODES.values() if code.verb == verb]
-    for code in codes:
-        if code.actor == actor:
-            return code
+    codes = {code.actor: code for code in w.CODES.values() if code.verb == verb}
+    if actor in codes:
+        return codes[actor]
+    needed = " or ".join(f"a {w.OWNERS[one]}" for one in (w.DRIVER, w.DEVICE) if one in codes)
     if actor == w.NOBODY:
-        raise row.fault("who", f"is empty: '{verb}' needs a driver or a card")
+        raise row.fault("who", f"is empty: '{verb}' needs {needed}")
+    if needed:
+        raise row.fault("who", f"'{row.text('who')}' is a {w.OWNERS[actor]}: '{verb}' needs {needed}")
     raise row.fault("who", f"must be empty: '{verb}' is done by nobody in particular")
 
 

@@ -91,6 +91,9 @@ WRITES, READS = codes_that("write"), codes_that("read")
 GREENS = codes_that("create green")
 CREATES, DESTROYS = codes_that("create") | GREENS, codes_that("destroy")
 ACTIVATES, DEACTIVATES = codes_that("activate"), codes_that("deactivate")
+LOCKS, UNLOCKS = codes_that("lock"), codes_that("unlock")
+# What these bring in, lock or unlock must be in no partition; whoever acts or leaves by another code must be in one.
+OF_INACTIVE = ACTIVATES | LOCKS | UNLOCKS
 LISTS = ("items", "pairs", "objects")
 
 # Of the line file (1 to 6), of the calls' areas (7 to 9, which the office program never gets wrong), of a move (from
@@ -128,13 +131,13 @@ QUESTIONS_BY_CODE = {
     (16, 7): "Is what is brought in inactive?",
     (16, 8): "Is what is brought in inactive?",
     (16, 9): "Is what is brought in inactive?",
-    (16, 14): "Is the card inactive that is locked?",
-    (16, 15): "Is the card inactive that is unlocked?",
+    (16, 14): "Is the card to be locked inactive?",
+    (16, 15): "Is the card to be unlocked inactive?",
     (17, 12): "Are all objects in the partition named?",
     (22, 8): "Does the card's hard-wired value write no transfer descriptor, as a green zone asks?",
-    (23, 8): "Is the card that is brought in free of a padlock?",
-    (23, 14): "Is the card that is locked free of a padlock until now?",
-    (23, 15): "Does a padlock hang on the card that is unlocked?",
+    (23, 8): "Is the card to be brought in free of a padlock?",
+    (23, 14): "Is the card to be locked free of a padlock until now?",
+    (23, 15): "Does a padlock hang on the card to be unlocked?",
 }
 # Where it is put in other words for what is in a green zone.
 QUESTIONS_IN_GREEN = {
@@ -144,6 +147,7 @@ OUTSIDE = 19
 IN_REACH = 20
 ENTERS_OUTSIDE = 21
 GREEN_RULE = 22
+LOCKED = 23
 # end questions
 # The questions that are answered with no for a chain of descriptor writes; those put on the state that would follow.
 # (For what leaves a green zone 20 is also answered with no without a chain: green.py has that, and 22.)
