@@ -15,7 +15,7 @@ from planner.judged import judge_folder, judge_moves
 from planner.page import page_html
 from planner.page_data import contents, stops
 from planner.picture import draw_plan, shown_state
-from planner.visit import move_words
+from planner.visit import Move, move_words
 
 # What stands where on the page, and what is lit, read from what is shown.
 SHOWN = """(() => {
@@ -25,7 +25,10 @@ SHOWN = """(() => {
     for (const row of part.querySelectorAll(".object"))
       places[row.querySelector(".name").textContent] = [part.querySelector("h3 span").textContent,
         row.querySelector(".held").firstChild.textContent];
-  return { places, stop: document.getElementById("slider").value, changed: lit("changed"), failed: lit("failed") };
+  const locked = [...document.querySelectorAll(".group .padlock")].map((one) =>
+    one.parentElement.querySelector(".name").textContent);
+  return { places, locked, stop: document.getElementById("slider").value, changed: lit("changed"),
+    failed: lit("failed") };
 })()"""
 LIT = "[...document.querySelectorAll('.object.{}')].map((one) => Number(one.dataset.object)).sort((a, b) => a - b)"
 ARROWS = "[...document.querySelectorAll('.arrow.chosen')].map((one) => one.dataset.link)"
@@ -40,8 +43,8 @@ GREEN_ZONES = "[...document.querySelectorAll('.partition.green h3')].map((one) =
 
 
 def plans():
-    """Plans on lines of 5, 40, 96 and 192 objects, the example, also with its loop green, one with rings, one with long
-    names; each named."""
+    """Plans on lines of 5, 40, 96 and 192 objects, the example, also with its loop green and with a padlock, one with
+    rings, one with long names; each named."""
     config, moves = sorters.small()
     yield "small", judge_moves(PROGRAM, config, moves)
     for name, size in (("middle", dict(cards=7, loose=2)), ("large", sorters.LARGE), ("wide", sorters.WIDE)):
@@ -51,6 +54,9 @@ def plans():
     yield "example", example
     moves = [step.move for step in example.visit]
     yield "green", judge_moves(PROGRAM, example.config, [replace(moves[0], code=13)] + moves[1:])
+    turns = [(11, 1), (14, 1), (8, 1, 1), (14, 2), (15, 1), (8, 1, 1)]
+    yield "locked", judge_moves(PROGRAM, example.config, moves[:9] + [Move(row, *turn) for row, turn in
+                                                                     enumerate(turns, 11)])
     yield "rings", judge_moves(PROGRAM, mailbox_line(), mailbox_visit(1, 2))
     config, moves = sorters.small()
     config.drivers[1], config.partitions[1] = "Sortieranlagensteuerung" * 4, "Paketverteilzentrum" * 5
@@ -107,6 +113,7 @@ class Walk(unittest.TestCase):
         wanted = {config.object(n): [config.partition(state.objects[n]) if state.objects[n] else "In no partition",
                                      contents(config, n, state)] for n in config.objects}
         self.assertEqual(shown["places"], wanted, where)
+        self.assertEqual(sorted(shown["locked"]), sorted(config.actor(w.DEVICE, n) for n in state.locked), where)
         if step and step.accepted:
             changed = {n for n in config.objects if step.after.contents[n] != step.before.contents[n]}
             self.assertLessEqual(changed, set(shown["changed"]), where)
@@ -233,6 +240,21 @@ class Walk(unittest.TestCase):
         self.assertGreater(self.browser.value("document.querySelectorAll('.bar.green').length"), 3)
         self.open("example", "row-17")
         self.assertEqual(self.browser.value(GREEN_ZONES), [])
+
+    def test_padlocks(self):
+        """A locked card has one, with a word that can be read; a move that 23 refuses says that it failed on the card."""
+        self.open("locked", "row-13")
+        self.assertEqual(self.browser.value(SHOWN)["locked"], ["card Diverter"])
+        self.assertEqual(self.browser.value("document.querySelector('.card.failed .owner .name').textContent"),
+                         "card Diverter")
+        for _ in range(2):
+            self.assertGreaterEqual(self.contrast(".group .padlock"), 4.5)
+            self.browser.click("#theme")
+        for row, words in ((12, "locked by this move"), (15, "unlocked by this move")):
+            self.open("locked", f"row-{row}")
+            self.assertEqual(self.browser.value("document.querySelector('.card.changed > .note').textContent"), words)
+        self.assertEqual(self.browser.value("[...document.querySelectorAll('.bar.locked')].map((one) => one.title)"),
+                         ["Diverter locked, from row 12 to row 15"])
 
     def contrast(self, selector):
         """The contrast of an element's text with the first ground behind it that is not transparent."""

@@ -216,7 +216,8 @@ class States(unittest.TestCase):
 
     @staticmethod
     def at(data, stop):
-        state = {"partition": {}, "driver": {}, "card": {}, "object": {}, "holds": dict(enumerate(data["held"], 1))}
+        state = {"partition": {}, "driver": {}, "card": {}, "object": {}, "lock": {},
+                 "holds": dict(enumerate(data["held"], 1))}
         here = [] if stop["step"] is None else [data["steps"][stop["step"]]]
         before = data["steps"][:stop["step"] if here else stop["done"]]
         for step in [step for step in before if not step["answer"]] + here:
@@ -230,6 +231,7 @@ class States(unittest.TestCase):
             test.assertEqual({n: state[sort].get(n, 0) for n in there}, there)
         standing = {n: 2 if n in wanted.destroyed else 3 if n in wanted.green else 1 for n in wanted.created}
         test.assertEqual(state["partition"], standing)
+        test.assertEqual({n for n, hung in state["lock"].items() if hung}, set(wanted.locked))
         test.assertEqual({n: data["words"][state["holds"][n]] for n in config.objects},
                          {n: contents(config, n, wanted) for n in config.objects})
 

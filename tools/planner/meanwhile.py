@@ -85,6 +85,13 @@ def cards_out(plan):
     return found
 
 
+def locked_cards(plan):
+    """Each card while a padlock hangs on it."""
+    states = states_of(plan)
+    return [span for device in plan.config.devices
+            for span in spans([device in state.locked for state in states], plan.config.device(device))]
+
+
 def span_words(span):
     """From which step to which; the first is done when it begins, the last when it ends."""
     start = f"from step {span.start}" if span.start else "from the start"

@@ -86,6 +86,8 @@ def settings(config, before, after, words, stored):
     for sort, column in PLACES:
         old, new = getattr(before, column), getattr(after, column)
         found += [[sort, number, new[number]] for number in new if new[number] != old[number]]
+    found += [["lock", number, int(number in after.locked)] for number in config.devices
+              if (number in after.locked) != (number in before.locked)]
     found += [["holds", number, words.number(contents(config, number, after))] for number in config.objects
               if after.contents[number] != before.contents[number] or number in stored and after is not before]
     return found

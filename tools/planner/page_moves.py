@@ -2,10 +2,11 @@
 from html import escape
 
 from . import wording as w
+from .book import NONE
 from .page_data import stop_key, stops
 from .reach import chain_sentences
 from .report import chain_when, plural, sentence, ways_out
-from .timeline import NOWHERE, bare_name, not_back, tracks
+from .timeline import LOCKED, NOWHERE, bare_name, not_back, tracks
 from .visit import move_words
 
 MOST_MARKS = 10
@@ -122,7 +123,7 @@ def axis_row(plan, count):
 def track_row(plan, track, count):
     """A thing's stays as bars on a line as long as the visit; the first stretch is that before the first move."""
     first, bars = plan.first, []
-    for stay in track.stays:
+    for stay in track.stretches:
         begin = stay.came.place - first if stay.came else 0
         end = stay.left.place - first if stay.left else count + 1
         bars.append(bar_html(plan, track, stay, 100 * begin / (count + 1), 100 * (end - begin) / (count + 1)))
@@ -136,9 +137,13 @@ def bar_html(plan, track, stay, left, width):
     config, green = plan.config, stay.partition in plan.last_state().green
     came = f"from {stay.came.move.spot}" if stay.came else "from the beginning"
     gone = f"to {stay.left.move.spot}" if stay.left else "to the end"
-    where = config.partition(stay.partition) + (" (green zone)" if green else "")
-    words = f"{bare_name(config, track)} in {where}, {came} {gone}"
+    where = f"in {config.partition(stay.partition)}" + (" (green zone)" if green else "")
+    if stay.partition == NONE:
+        shown, look, where = element("span", LOCKED, class_="padlock"), "bar locked", LOCKED
+    else:
+        look = "bar green" if green else f"bar tint{stay.partition % 6}"
+        shown = escape(config.partition(stay.partition))
+    words = f"{bare_name(config, track)} {where}, {came} {gone}"
     goal = stop_key(stay.came)
-    return element("a", escape(config.partition(stay.partition)),
-                   class_="bar green" if green else f"bar tint{stay.partition % 6}", href="#" + goal, title=words,
-                   aria_label=words, style=f"left:{left:.3f}%;width:{width:.3f}%")
+    return element("a", shown, class_=look, href="#" + goal, title=words, aria_label=words,
+                   style=f"left:{left:.3f}%;width:{width:.3f}%")

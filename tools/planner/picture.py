@@ -6,7 +6,7 @@ from .reach import chain_sentences, searched_state
 from .routes import draw_routes, pack_bands, pack_lanes, plan_routes
 from .scene import COLUMN, EXTRA, HEADER, LINE, MARGIN, PAD, TITLE, arrange, build
 from .shelves import AROUND, print_style, prints, shelve
-from .svg import box, document, label, lines_of, rounded, tag, text_width
+from .svg import box, document, label, lines_of, padlock, rounded, tag, text_width
 from .visit import move_words
 
 RED, GREEN, INK, GREY = "#c8102e", "#1b7f3b", "#1f2933", "#64707d"
@@ -15,6 +15,8 @@ KIND_MARKS = {w.TRANSFER: ("T", "#d97706"), w.FUNCTION: ("F", "#7c3aed"), w.DATA
 # The paper of a partition and its frame: a plain one, a green zone, and what is in none.
 ZONE_COLOURS = {"plain": ("#f8fafc", "#94a3b8"), "green": ("#dff3e3", "#2e9e4f"), "none": ("#ffffff", "#94a3b8")}
 GREEN_ZONE = "green zone"
+# The padlock of a card that is locked, its word, and what the legend says of it.
+LOCK_COLOUR, LOCKED, LOCK_LEGEND, LOCK_WIDTH = "#8a4b00", "locked", "locked: nothing brings the card in", 19
 GROUP_COLOURS = {w.DRIVER: ("#d8ecd9", "#2f6b36"), w.DEVICE: ("#d6e4f7", "#1d4e89"), w.EXTERNAL: ("#ece7dc", "#6b5d3c")}
 # How an arrow is drawn by what its entry does, and what the legend says of it.
 LOOKS = {w.READ: {}, w.WRITE: dict(stroke_dasharray="6 4"), w.BOTH: dict(stroke_dasharray="14 4 3 4")}
@@ -60,7 +62,7 @@ def draw(plan, step=None):
     for one in scene.boxes:
         body += draw_box(plan.config, one, marks, colour)
     body += draw_chain(scene, chain, routes)
-    notes, bottom = footer(plan, step, chain, scene.height + 14, width)
+    notes, bottom = footer(plan, step, chain, scene.height + 14, width, bool(state.locked))
     height = bottom + MARGIN / 2
     return Picture(document(width, height, body + notes, print_style(width, height)), prints(width, height))
 
@@ -136,13 +138,29 @@ def draw_group(config, group, marks, colour):
     body = [box(x, group.y, width, group.height, rx=6, fill="#ffffff", stroke=colour if hot else dark,
                 stroke_width=2.2 if hot else 1),
             box(x + 1, group.y + 1, width - 2, HEADER - 4, rx=5, fill=light),
-            label(x + 9, group.y + 17, title, 12.5, width - 100, font_weight="bold", fill=dark)]
+            label(x + 9, group.y + 17, title, 12.5, title_room(group, width), font_weight="bold", fill=dark)]
+    right = x + width - 10
     if group.folded:
         count = f"{len(group.spots)} object{'' if len(group.spots) == 1 else 's'}"
-        return body + [label(x + width - 10, group.y + 16.5, count, 11, text_anchor="end", fill=dark)]
-    for spot in group.spots:
+        body.append(label(right, group.y + 16.5, count, 11, text_anchor="end", fill=dark))
+        right -= text_width(count, 11) + 8
+    if group.locked:
+        body += draw_lock(right, group.y + 16.5)
+    for spot in () if group.folded else group.spots:
         body += draw_spot(config, spot, width, ("object", spot.object) in marks, colour)
     return body
+
+
+def title_room(group, width):
+    """How wide the name of a driver or card may be, beside a count and a padlock."""
+    return width - 100 - (text_width(LOCKED, 11) + LOCK_WIDTH if group.locked and group.folded else 0)
+
+
+def draw_lock(right, y):
+    """A padlock with its word, which ends at `right`."""
+    left = right - text_width(LOCKED, 11)
+    return padlock(left - LOCK_WIDTH, y - 12, LOCK_COLOUR) + [
+        label(right, y, LOCKED, 11, text_anchor="end", font_weight="bold", fill=LOCK_COLOUR)]
 
 
 def draw_spot(config, spot, width, hot, colour):
@@ -194,7 +212,7 @@ def draw_chain(scene, chain, routes):
     return body
 
 
-def footer(plan, step, chain, y, width):
+def footer(plan, step, chain, y, width, locked):
     """The chain in sentences, and what the marks mean."""
     body = []
     if chain:
@@ -208,8 +226,13 @@ def footer(plan, step, chain, y, width):
                 y += 17 if place else 0
                 body.append(label(MARGIN + 28, y, line, 12.5, fill=INK))
         y += 14
-    y += 16
-    x = MARGIN
+    marks, y = legend(chain, y + 16, width, locked)
+    return body + marks, y + 8
+
+
+def legend(chain, y, width, locked):
+    """What the marks mean, in a row; the padlock begins another one where it has no room."""
+    body, x = [], MARGIN
     for kind, (letter, tint) in KIND_MARKS.items():
         body += [box(x, y - 11, 14, 14, rx=3, fill=tint),
                  label(x + 7, y, letter, 10, text_anchor="middle", font_weight="bold", fill="#ffffff"),
@@ -220,4 +243,8 @@ def footer(plan, step, chain, y, width):
             body += [tag("path", d=f"M{x:.1f},{y - 4}h30", stroke=RED, stroke_width=1.8, fill="none",
                          marker_end="url(#head)", **LOOKS[mode]), label(x + 36, y, LEGEND[mode], 11, fill=GREY)]
             x += 56 + text_width(LEGEND[mode], 11)
-    return body, y + 8
+    if locked:
+        if x + LOCK_WIDTH + text_width(LOCK_LEGEND, 11) > width - MARGIN:
+            x, y = MARGIN, y + 20
+        body += padlock(x, y - 12, LOCK_COLOUR) + [label(x + LOCK_WIDTH, y, LOCK_LEGEND, 11, fill=GREY)]
+    return body, y

@@ -40,10 +40,14 @@ class Spot:
 
 @dataclass
 class Group:
-    """An owner with its objects: a driver, a device, or nobody for external objects. A folded one shows no objects."""
+    """An owner with its objects: a driver, a device, or nobody for external objects. A folded one shows no objects.
+
+    On a device that is locked hangs a padlock.
+    """
     owner_class: int
     owner: int
     spots: list
+    locked: bool = False
     folded: bool = False
     x: float = 0
     y: float = 0
@@ -108,7 +112,8 @@ def build(config, state, chain, marks=()):
         for owner_class, where in ((w.DRIVER, state.drivers), (w.DEVICE, state.devices)):
             for owner, at in where.items():
                 if at == partition:
-                    yield Group(owner_class, owner, [spot(n) for n in config.owned(owner_class, owner)])
+                    yield Group(owner_class, owner, [spot(n) for n in config.owned(owner_class, owner)],
+                                owner_class == w.DEVICE and owner in state.locked)
         loose = [n for n in config.owned(w.EXTERNAL, 0) if state.objects[n] == partition]
         if loose:
             yield Group(w.EXTERNAL, 0, [spot(n) for n in loose])

@@ -59,6 +59,13 @@ def box(x, y, width, height, **values):
     return tag("rect", x=round(x, 1), y=round(y, 1), width=round(width, 1), height=round(height, 1), **values)
 
 
+def padlock(x, y, colour):
+    """A padlock, 12 wide and 15 high: a bow over a box with a keyhole."""
+    return [tag("path", d=f"M{x + 2.5:.1f},{y + 7:.1f}v-2.5a3.5,3.5 0 0 1 7,0v2.5", fill="none", stroke=colour,
+                stroke_width=2), box(x, y + 6.5, 12, 8.5, rx=1.5, fill=colour),
+            tag("path", d=f"M{x + 6:.1f},{y + 9:.1f}v3.5", stroke="#ffffff", stroke_width=2)]
+
+
 def rounded(points, radius=8):
     """The path through points with right angles rounded off."""
     parts = [f"M{points[0][0]:.1f},{points[0][1]:.1f}"]

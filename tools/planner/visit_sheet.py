@@ -4,7 +4,7 @@ from pathlib import Path
 
 from . import wording as w
 from .fingerprint import digests
-from .meanwhile import cards_out, meanwhile_words, shut_zones, span_words, where_of
+from .meanwhile import cards_out, locked_cards, meanwhile_words, shut_zones, span_words, where_of
 from .report import plural, sentence
 from .visit import move_words
 
@@ -64,12 +64,14 @@ def step_row(plan, number, step, note):
 
 
 def zones(plan):
-    """Which zones are shut, and which cards are out, from which step to which."""
+    """Which zones are shut, which cards are out, and on which a padlock hangs, from which step to which."""
     parts = []
     for title, what, found in (
             ("Zones that are shut", "A zone is shut while no card is in it: nothing moves there.", shut_zones(plan)),
             ("Cards that are out", "A card is out while it is not where it was before the visit, or else where "
-             "it was first brought.", cards_out(plan))):
+             "it was first brought.", cards_out(plan)),
+            ("Cards that are locked", "While a padlock hangs on a card, nothing brings it in. Whoever hung it takes it "
+             "off.", locked_cards(plan))):
         rows = [f"<tr><td>{escape(span.what)}</td><td>{span_words(span)}</td></tr>" for span in found]
         table = ["<table><tbody>", *rows, "</tbody></table>"] if rows else ["<p>None.</p>"]
         parts += [f"<h2>{title}</h2>", f"<p>{what}</p>", *table]

@@ -10,7 +10,7 @@ const MUCH = 40;
 function fresh() {
   const none = (count) => new Array(count + 1).fill(0);
   return {
-    partition: {}, driver: none(data.drivers.length), card: none(data.cards.length),
+    partition: {}, driver: none(data.drivers.length), card: none(data.cards.length), lock: none(data.cards.length),
     object: none(data.objects.length), holds: [0].concat(data.held),
   };
 }
@@ -64,6 +64,7 @@ function lightSettings(lit, step, before, state) {
     if (sort === "partition")
       light(lit, sort, number, look, standingWords(value));
     else if (sort === "driver" || sort === "card") light(lit, sort, number, look, movedWords(old, value));
+    else if (sort === "lock") light(lit, "card", number, look, (value ? "locked" : "unlocked") + " by this move");
     else if (sort === "object" && data.objects[number - 1][2] === EXTERNAL)
       light(lit, "object", number, look, movedWords(old, value));
     else if (sort === "holds") light(lit, "object", number, look, heldWords(look, old, value));
