@@ -17,7 +17,7 @@ from planner.repair import Search
 from planner.repairs import PADLOCKS, changed_lines
 from planner.visit import Item, Move
 from test_repair import save
-from test_start import TODAY, comes_back
+from test_start import NEEDED, TODAY, WRAPPED, comes_back
 
 HEAD = ["operation", "who", "where", "what"]
 LOCK, UNLOCK, INACTIVE = 14, 15, 16
@@ -118,7 +118,10 @@ class Areas(InFolder):
                          ["card Scale: locked, and not unlocked"])
 
     def test_of_before_there_were_locks(self):
-        """Plain and as it was stored then, it is the same state; no other mark is taken for its length."""
+        """Plain and as it was stored then, it is the same state; no other mark is taken for its length.
+
+        A file of today that is cut to that length is none.
+        """
         older, was = self.area[:LOCKS_FROM], (TODAY / "bringup.csv").read_bytes()
         wrapped = [mark + digest(self.line) + older for mark in (OLDER_MARK, MARK)]
         for data in (older, wrapped[0] + digest(wrapped[0])):
@@ -129,6 +132,8 @@ class Areas(InFolder):
                 ""))
             self.assertEqual((TODAY / "bringup.csv").read_bytes(), was)
         self.assertEqual(self.start(wrapped[1] + digest(wrapped[1])),
+                         (2, "", f"plan: stored: {NEEDED.format(f'{LOCKS_FROM + WRAPPED:,} bytes')}\n"))
+        self.assertEqual(self.start(b"x" + wrapped[0][1:] + digest(wrapped[0])),
                          (2, "", "plan: stored: does not begin with SGSTATE1, as the example controller stores it\n"))
         now = OLDER_MARK + digest(self.line) + self.area
         self.assertEqual(self.start(now + digest(now)),

@@ -57,12 +57,11 @@ def length_for(records):
 
 
 def other_length(config, count):
-    """What is said of a file whose length is not that of the line's area; those of all lines are known."""
-    own, known = length_for(room(config)), {}
-    for records, words in ((SMALL_ROOM, f"at most {SMALL_ROOM}"), (WIDE_ROOM, f"more than {SMALL_ROOM}")):
-        known.update({length + more: words for length in (length_for(records), locks_at(records))
-                      for more in (0, WRAPPING)})
-    sort = f", as for a line of {known[count]} objects" if count in known else ""
+    """What is said of a file whose length is not that of the line's area; those of the other lines are known."""
+    own = length_for(room(config))
+    records, words = (WIDE_ROOM, "more than") if room(config) == SMALL_ROOM else (SMALL_ROOM, "at most")
+    known = [length + more for length in (length_for(records), locks_at(records)) for more in (0, WRAPPING)]
+    sort = f", as for a line of {words} {SMALL_ROOM} objects" if count in known else ""
     return (f"has {count:,} bytes{sort}; the state area of this line has {own:,}, and {own + WRAPPING:,} as the "
             "example controller stores it")
 
@@ -78,12 +77,12 @@ def unwrap(data, config, line):
     One of before there were locks is taken with zeros for them: no padlock hangs in it.
     """
     length, older = length_for(room(config)), is_older(config, data)
-    own_length = length - LOCK_BYTES if older else length
-    if len(data) == own_length:
+    mark, wrapped = (OLDER_MARK, length - LOCK_BYTES + WRAPPING) if older else (MARK, length + WRAPPING)
+    if len(data) == wrapped - WRAPPING:
         return data.ljust(length, b"\0")
-    if len(data) != own_length + WRAPPING:
+    # One that was stored with locks is no older one, though it were cut to this length.
+    if len(data) != wrapped or older and data.startswith(MARK):
         raise AreaError(other_length(config, len(data)))
-    mark = OLDER_MARK if older else MARK
     if not data.startswith(mark):
         raise AreaError(f"does not begin with {mark.decode()}, as the example controller stores it")
     body = data[len(mark):-DIGEST_BYTES]
