@@ -91,7 +91,6 @@ fn records_that_create_no_green_zone() {
     for (record, expected) in [
         (&[code::CREATE_GREEN_PARTITION][..], 10),
         (&[code::CREATE_GREEN_PARTITION, 1, 1], 10),
-        (&[code::CREATE_GREEN_PARTITION + 1, 1], 10),
         (&[code::CREATE_GREEN_PARTITION, 0], 11),
         (&[code::CREATE_GREEN_PARTITION, 64], 11),
         (&[code::CREATE_GREEN_PARTITION, 70], 11),

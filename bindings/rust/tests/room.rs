@@ -4,7 +4,7 @@ mod common;
 
 use common::{ENDS, FULL, LENGTHS, OLD, SMALL, WIDE, data_line, example, looked_at, number, question, record_at};
 use sorter_gate::{
-    ANSWER_BYTES, Refusal, STATE_BYTES, STATE_BYTES_WIDE, code, fresh, load_check, operate, state_bytes,
+    ANSWER_BYTES, LOCK_BYTES, Refusal, STATE_BYTES, STATE_BYTES_WIDE, code, fresh, load_check, operate, state_bytes,
 };
 
 #[test]
@@ -62,7 +62,7 @@ fn what_the_line_does_not_have_is_zero_in_both_areas() {
     for (objects, room) in [(0, SMALL), (SMALL - 1, SMALL), (WIDE, FULL), (FULL - 1, FULL)] {
         let line = data_line(objects);
         let mut state = vec![0; state_bytes(&line).expect("the line is accepted")];
-        assert_eq!(state.len(), record_at(room) + 17);
+        assert_eq!(state.len(), record_at(room) + 17 + LOCK_BYTES);
         assert_eq!(looked_at(&line, &mut state, &[]), 10);
         for place in [record_at(objects + 1), record_at(room), record_at(room) + 16] {
             state[place] = 1;
@@ -72,7 +72,7 @@ fn what_the_line_does_not_have_is_zero_in_both_areas() {
     }
     // The last object's contents are free where there is one.
     let (line, mut state) = (data_line(FULL), vec![0; STATE_BYTES_WIDE]);
-    state[STATE_BYTES_WIDE - 1] = OLD;
+    state[record_at(FULL) + 16] = OLD;
     assert_eq!(looked_at(&line, &mut state, &[]), 10);
 }
 

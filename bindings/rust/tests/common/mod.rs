@@ -1,7 +1,7 @@
 //! Lines for the tests, up to the longest, and calls on areas.
 #![allow(dead_code)] // no test uses all of it
 
-use sorter_gate::{ANSWER_BYTES, Refusal, STATE_BYTES, STATE_BYTES_WIDE, fresh, operate, state_bytes};
+use sorter_gate::{ANSWER_BYTES, LOCK_BYTES, Refusal, STATE_BYTES, STATE_BYTES_WIDE, fresh, operate, state_bytes};
 
 /// The objects that a line has at most; from 128 on a number has two bytes.
 pub const FULL: u8 = 192;
@@ -10,9 +10,18 @@ pub const FULL: u8 = 192;
 pub const SMALL: u8 = 96;
 pub const WIDE: u8 = SMALL + 1;
 
-/// Each length of a state area with those about it, and none.
-pub const LENGTHS: [usize; 7] =
-    [0, STATE_BYTES - 1, STATE_BYTES, STATE_BYTES + 1, STATE_BYTES_WIDE - 1, STATE_BYTES_WIDE, STATE_BYTES_WIDE + 1];
+/// Each length of a state area with those about it, those of before there were locks, and none.
+pub const LENGTHS: [usize; 9] = [
+    0,
+    STATE_BYTES - LOCK_BYTES,
+    STATE_BYTES - 1,
+    STATE_BYTES,
+    STATE_BYTES + 1,
+    STATE_BYTES_WIDE - LOCK_BYTES,
+    STATE_BYTES_WIDE - 1,
+    STATE_BYTES_WIDE,
+    STATE_BYTES_WIDE + 1,
+];
 
 /// Lines at the ends of both sorts, by their objects, with the length that each needs.
 pub const ENDS: [(u8, usize); 4] =
@@ -24,6 +33,11 @@ pub const OLD: u8 = 0xEE;
 /// Where the record of an object begins in a state area.
 pub fn record_at(object: u8) -> usize {
     64 + 16 + 16 + 17 * (usize::from(object) - 1)
+}
+
+/// Where the lock byte of a card stands in a state area of either length.
+pub fn lock_at(length: usize, card: u8) -> usize {
+    length - LOCK_BYTES + usize::from(card) - 1
 }
 
 pub fn question(result: Result<(), Refusal>) -> u32 {
