@@ -119,6 +119,12 @@ void carry_out(const struct line *line, uint8_t *state, const struct operation *
     case CARD_OUT:
         move_owner(line, state, BY_CARD, operation->owner, 0);
         break;
+    case LOCK:
+        state[lock_at(line, operation->owner)] = LOCKED;
+        break;
+    case UNLOCK:
+        state[lock_at(line, operation->owner)] = UNLOCKED;
+        break;
     default:
         move_list(line, state, operation, 0);
     }

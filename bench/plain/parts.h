@@ -17,6 +17,7 @@ enum kind { TRANSFER = 1, FUNCTION = 2, DATA = 3, HARDWIRED = 4 };
 enum class { EXTERNAL = 0, BY_DRIVER = 1, BY_CARD = 2 };
 enum mode { READ = 1, WRITE = 2, BOTH = 3 };
 enum standing { NEVER_USED = 0, EXISTING = 1, DESTROYED = 2, GREEN = 3 };
+enum lock { UNLOCKED = 0, LOCKED = 1 };
 
 enum code {
     DRIVER_WRITE = 1,
@@ -31,7 +32,9 @@ enum code {
     DRIVER_OUT,
     CARD_OUT,
     OBJECTS_OUT,
-    CREATE_GREEN
+    CREATE_GREEN,
+    LOCK,
+    UNLOCK
 };
 
 // An entry of a value. It is stored as a word, and its first byte is none of it.
@@ -51,9 +54,19 @@ struct line {
     struct entry entries[MOST_VALUES + 1][MOST_ENTRIES];
 };
 
+// Where the lock bytes stand in the line's state area: behind the last record that it has room for.
+static inline size_t locks_at(const struct line *line) {
+    return RECORDS_AT + RECORD * (line->objects <= SMALL_ROOM ? SMALL_ROOM : MOST_OBJECTS);
+}
+
+// A card's lock byte.
+static inline size_t lock_at(const struct line *line, uint32_t card) {
+    return locks_at(line) - 1 + card;
+}
+
 // The length of the line's state area.
 static inline size_t area_bytes(const struct line *line) {
-    return RECORDS_AT + RECORD * (line->objects <= SMALL_ROOM ? SMALL_ROOM : MOST_OBJECTS);
+    return locks_at(line) + MOST_CARDS;
 }
 
 // An object's record in the state: its partition, then its contents.
@@ -118,7 +131,7 @@ uint32_t first_bad(const struct line *line, const uint8_t *state);
 // Question 10.
 bool take_apart(struct operation *operation, const uint8_t *record, size_t length);
 
-// Questions 11 to 17: the first that is answered with no, or 0.
+// Questions 11 to 17 and 23: the first that is answered with no, or 0.
 uint32_t ask_record(const struct line *line, const uint8_t *state, const struct operation *operation);
 
 // Question 18, for codes 2 and 4.

@@ -68,6 +68,8 @@ static bool behind_code(struct reader *record, struct operation *operation) {
         return number(record, &operation->partition) && list(record, operation);
     case DRIVER_OUT:
     case CARD_OUT:
+    case LOCK:
+    case UNLOCK:
         return number(record, &operation->owner);
     default:
         return false;

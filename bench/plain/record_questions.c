@@ -1,4 +1,4 @@
-// Questions 11 to 17, each for the whole record before the next.
+// Questions 11 to 17 and 23, each for the whole record before the next.
 #include "parts.h"
 
 static bool is_write(const struct operation *operation) {
@@ -14,12 +14,13 @@ static bool has_list(const struct operation *operation) {
 }
 
 static bool has_partition(const struct operation *operation) {
-    return (operation->code >= CREATE && operation->code <= OBJECTS_IN) || operation->code >= OBJECTS_OUT;
+    return (operation->code >= CREATE && operation->code <= OBJECTS_IN) || operation->code == OBJECTS_OUT ||
+           operation->code == CREATE_GREEN;
 }
 
 // The class of the driver or card that a record names; EXTERNAL if it names none.
 static uint32_t class_named(const struct operation *operation) {
-    static const uint8_t CLASSES[] = {0, 1, 2, 1, 2, 0, 0, 1, 2, 0, 1, 2, 0, 0};
+    static const uint8_t CLASSES[] = {0, 1, 2, 1, 2, 0, 0, 1, 2, 0, 1, 2, 0, 0, 2, 2};
     return CLASSES[operation->code];
 }
 
@@ -99,19 +100,27 @@ static bool is_empty(const struct line *line, const uint8_t *state, uint32_t par
     return true;
 }
 
-// Question 16.
+// Question 16: what comes in, or gets or loses a lock, is inactive; whatever else is named is active.
 static bool activity_fits(const uint8_t *state, const struct operation *operation) {
     uint32_t class = class_named(operation);
-    bool comes = operation->code >= DRIVER_IN && operation->code <= OBJECTS_IN;
+    bool inactive = (operation->code >= DRIVER_IN && operation->code <= OBJECTS_IN) || operation->code >= LOCK;
     if (class != EXTERNAL) {
-        return (state[owner_at(class, operation->owner)] == 0) == comes;
+        return (state[owner_at(class, operation->owner)] == 0) == inactive;
     }
     for (uint32_t i = 0; has_list(operation) && i < operation->count; i++) {
-        if ((state[record_at(operation->object[i])] == 0) != comes) {
+        if ((state[record_at(operation->object[i])] == 0) != inactive) {
             return false;
         }
     }
     return true;
+}
+
+// Question 23, for codes 8, 14 and 15: a card with a lock does not come in and gets no other, one without loses none.
+static bool lock_fits(const struct line *line, const uint8_t *state, const struct operation *operation) {
+    if (operation->code != CARD_IN && operation->code < LOCK) {
+        return true;
+    }
+    return state[lock_at(line, operation->owner)] == (operation->code == UNLOCK ? LOCKED : UNLOCKED);
 }
 
 // Question 17.
@@ -146,6 +155,9 @@ uint32_t ask_record(const struct line *line, const uint8_t *state, const struct 
     }
     if (!activity_fits(state, operation)) {
         return 16;
+    }
+    if (!lock_fits(line, state, operation)) {
+        return 23;
     }
     if ((code == DRIVER_WRITE || code == DRIVER_READ) &&
         !all_in(state, operation, state[owner_at(BY_DRIVER, operation->owner)])) {

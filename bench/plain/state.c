@@ -1,5 +1,5 @@
 // Question 9, and the first bad record: the bytes before the records, by words where they need not be told apart, then
-// one walk over the records.
+// one walk over the records; and, for question 9 alone, the lock bytes behind them.
 #include "parts.h"
 
 static const uint64_t ONES = 0x0101010101010101;
@@ -85,7 +85,7 @@ static inline __attribute__((always_inline)) uint32_t walk(const struct line *li
             return object;
         }
     }
-    if (zeros(absent, state + area_bytes(line))) {
+    if (zeros(absent, state + locks_at(line))) {
         return 0;
     }
     while (!*record) {
@@ -99,7 +99,21 @@ uint32_t first_bad(const struct line *line, const uint8_t *state) {
     return head.fits ? walk(line, state, head.open, true) : walk(line, state, head.open, false);
 }
 
+// Whether every lock byte is a lock's, an active card has none, and nor has an absent one.
+static bool locks_fit(const struct line *line, const uint8_t *state) {
+    const uint8_t *locks = state + locks_at(line), *partitions = state + CARDS_AT;
+    if (!(word_at(locks) | word_at(locks + 8))) {
+        return true;
+    }
+    for (uint32_t i = 0; i < line->cards; i++) {
+        if (locks[i] != UNLOCKED && (locks[i] != LOCKED || partitions[i])) {
+            return false;
+        }
+    }
+    return zeros(locks + line->cards, locks + MOST_CARDS);
+}
+
 bool well_formed(const struct line *line, const uint8_t *state) {
     struct head head = read_head(line, state);
-    return head.fits && !walk(line, state, head.open, true);
+    return head.fits && !walk(line, state, head.open, true) && locks_fit(line, state);
 }
