@@ -1,7 +1,8 @@
 #!/usr/bin/env bash
 # The library from the host's side: the C controllers; a million random and mutated inputs, each with its areas against
 # forbidden pages, once at their ends and once at their beginnings; areas of every length, and line files cut anywhere;
-# and the same test over libraries with a fault, each of which it must tell. (`make check` has the Rust binding.)
+# calls on areas that were stored before request N6; and the same tests over libraries with a fault, each of which they
+# must tell. (`make check` has the Rust binding.)
 #   host.sh [TIMES [SEED]]
 set -euo pipefail
 cd "$(dirname "$0")/.."
@@ -26,6 +27,25 @@ done
 gcc "${flags[@]}" -o "$out/faulty" "${parts[@]}" tests/faulty{,_kinds}.c target/staticlib/libgate.a "${wrapped[@]}"
 few=100000
 seen=0
+
+# Areas of before request N6, with zeros where the lock bytes are now, get the answers of before, call by call.
+stored=tests/stored/older.txt
+gcc "${flags[@]}" -o "$out/older" tests/older.c target/staticlib/libgate.a
+gcc "${flags[@]}" -o "$out/older-faulty" tests/older.c tests/faulty{,_kinds}.c target/staticlib/libgate.a "${wrapped[@]}"
+"$out/older" < $stored > "$out/rows"
+cmp "$out/rows" $stored
+echo "host: $(grep -c ' = ' $stored) calls on areas of before, each answered and done as before"
+
+# A fault that must show there.
+must_differ() {
+    local status=0
+    GATE_FAULT=$1 "$out/older-faulty" < $stored > "$out/rows" 2> "$out/told" || status=$?
+    if [ $status -gt 1 ] || { [ $status = 0 ] && cmp -s "$out/rows" $stored; }; then
+        echo "host: with the fault '$1' calls on areas of before end with $status, and give what they gave" >&2
+        exit 1
+    fi
+    seen=$((seen + 1))
+}
 
 # A fault, and the message that the test must end with.
 must_tell() {
@@ -200,4 +220,9 @@ must_tell "never 22" "the library never answered 22 on small lines"
 must_tell "refuse 1" "the library never accepted code 1 on small lines"
 must_tell "refuse 13" "the library never accepted code 13 on small lines"
 must_tell "place" "gate_operate answered 10, and in the pass before [0-9]+"
+for fault in "change-accepted state operate" "change-accepted answer operate" "change-refused state operate" \
+    "change-accepted state fresh" "instead 16 0" "instead 9 0" "never 21" "never 22" "refuse 13" "small-only" "modulo" \
+    "plain-zone" "as-plain 8" "named-less" "named-let-by 7" "one-off" "told-question"; do
+    must_differ "$fault"
+done
 echo "host: $seen faults put into the library, each told by the test"
