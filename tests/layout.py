@@ -11,8 +11,11 @@ RECORD = 1 + CONTENT
 DRIVERS_FROM = PARTITIONS
 DEVICES_FROM = DRIVERS_FROM + MOST_DRIVERS
 RECORDS_FROM = DEVICES_FROM + MOST_DEVICES
-AREA = RECORDS_FROM + RECORD * SMALL_ROOM
-WIDE_AREA = RECORDS_FROM + RECORD * MOST_OBJECTS
+# Behind the records stand the devices' lock bytes (request N6), so that their place goes with the records' number.
+LOCKS_FROM = RECORDS_FROM + RECORD * SMALL_ROOM
+WIDE_LOCKS_FROM = RECORDS_FROM + RECORD * MOST_OBJECTS
+AREA = LOCKS_FROM + MOST_DEVICES
+WIDE_AREA = WIDE_LOCKS_FROM + MOST_DEVICES
 
 # The counts of a configuration in memory, which come first: D, V, N and K.
 DRIVERS, DEVICES, OBJECTS, VALUES = range(4)
@@ -45,6 +48,11 @@ SMALL, WIDE = Columns(SMALL_ROOM), Columns(MOST_OBJECTS)
 def area_of(objects):
     """The length of the state area of a line of so many objects."""
     return AREA if objects <= SMALL_ROOM else WIDE_AREA
+
+
+def locks_from(objects):
+    """Where the lock bytes of a line of so many objects begin, and its records end."""
+    return LOCKS_FROM if objects <= SMALL_ROOM else WIDE_LOCKS_FROM
 
 
 def record_at(n):

@@ -6,11 +6,11 @@
 
 The cases are made here (those of the writer of files in vectors_write.py, of operation records in vectors_records.py,
 of wide lines in vectors_wide.py, of the first bad record in vectors_first.py, of ring cards in vectors_rings.py, of
-green zones in vectors_green.py, vectors_zones.py and vectors_far.py) and judged elsewhere: answers and checksums are
-the reference's, by its program `vectors`. A named case states its answer, and if the reference gives another, nothing
-is written and the check fails. A case is a byte for what is called, its length in two bytes, lower byte first, and its
-bytes; its row is its place from 1, the answer, and a checksum of what the call left (0 where it leaves nothing) or, in
-12, a second answer. What is called:
+green zones in vectors_green.py, vectors_zones.py and vectors_far.py, of locks in vectors_locks.py) and judged
+elsewhere: answers and checksums are the reference's, by its program `vectors`. A named case states its answer, and if
+the reference gives another, nothing is written and the check fails. A case is a byte for what is called, its length in
+two bytes, lower byte first, and its bytes; its row is its place from 1, the answer, and a checksum of what the call
+left (0 where it leaves nothing) or, in 12, a second answer. What is called:
 
     1         the load check, on a file
     2, 5, 6   a fresh state of a file, in an area of the length that its line needs, a byte shorter or longer (as for
@@ -37,13 +37,14 @@ import sys
 import vectors_first
 import vectors_far
 import vectors_green
+import vectors_locks
 import vectors_records
 import vectors_rings
 import vectors_wide
 import vectors_write
 import vectors_zones
-from layout import (AREA, CONTENT, DEVICES_FROM, DRIVERS_FROM, MOST_DEVICES, MOST_DRIVERS, MOST_ENTRIES, MOST_ITEMS,
-                    MOST_VALUES, SMALL_ROOM, record_at, row, two)
+from layout import (AREA, DEVICES_FROM, DRIVERS_FROM, LOCKS_FROM, MOST_DEVICES, MOST_DRIVERS, MOST_ENTRIES, MOST_VALUES,
+                    SMALL_ROOM, record_at, row, two)
 
 TOP = pathlib.Path(__file__).resolve().parent.parent
 HOME = TOP / "crates" / "vectors"
@@ -220,7 +221,7 @@ def named_areas():
     yield "9: a byte behind a hardcoded value", {record_at(1) + 16: 1}, 9
     yield "9: an absent object in a partition", {record_at(7): 1}, 9
     yield "9: an absent object's contents", {record_at(7) + 1: 1}, 9
-    yield "9: the last byte of the last record", {AREA - 1: 1}, 9
+    yield "9: the last byte of the last record", {LOCKS_FROM - 1: 1}, 9
     yield "9: any contents of kind 3", {record_at(5) + 9: 255}, 0
 
 
@@ -305,13 +306,23 @@ def green_cases():
     yield from operations(vectors_far.calls(L))
 
 
+def lock_cases():
+    yield from operations(vectors_locks.calls(L))
+    yield from (case(label, OPERATION, record, stated) for label, record, stated in vectors_locks.records())
+    yield from first_bad(vectors_locks.first_bad(L))
+    for label, file, length, stated in vectors_locks.fresh(L):
+        yield case(label, FRESH_IN, two(length) + file, stated)
+
+
 def cases():
-    """In the order in which they came to be: the bytes of those that were there stay as they were."""
+    """In the order in which they came to be: the bytes of those that were there stay as they were, but for the lengths
+    of areas."""
     yield from small_cases()
     yield from wide_cases()
     yield from first_bad(vectors_first.cases())
     yield from ring_cases()
     yield from green_cases()
+    yield from lock_cases()
 
 
 def reference_program(name):

@@ -3,7 +3,7 @@ rule of 'Well formed', in a record, in the bytes before the records, or in both.
 and the answer to an operation whose record is empty: 10 where the area is well formed. Both are stated from the papers;
 nothing here walks over an area."""
 from layout import (AREA, CONTENT, DEVICES_FROM, DRIVERS_FROM, MOST_DEVICES, MOST_DRIVERS, MOST_OBJECTS, PARTITIONS,
-                    RECORD, SMALL_ROOM, WIDE_AREA, area_of, record_at, row)
+                    RECORD, SMALL_ROOM, WIDE_AREA, area_of, locks_from, record_at, row)
 from vectors_wide import MOST_AREA, NO_CASE, data
 from vectors_write import refused
 
@@ -187,7 +187,7 @@ def ends():
         line = [1, 1, 0, objects, 0] + [3, 0, 0] * (objects - 1) + [1, 1, 1]
         length, last = area_of(objects), record_at(objects)
         changes = {"as it is": {}, "object 1 in 2": {record_at(1): 2}, "its driver elsewhere": {DRIVERS_FROM: 3},
-                   "the next record": {last + RECORD: 1}, "the last byte": {length - 1: 1}}
+                   "the next record": {last + RECORD: 1}, "the last byte": {locks_from(objects) - 1: 1}}
         for name, place in places.items():
             area = {**STATUSES, DRIVERS_FROM: 1, last: 1, **changes[name]}
             yield f"{objects} objects, {name}", row(line), length, area, place, BROKEN if place else WELL

@@ -1,7 +1,7 @@
 """Stored cases of request N2, lines of up to 192 objects, for tests/vectors.py: how long a state area a line needs, and
 objects whose numbers have two bytes."""
 from layout import (AREA, CONTENT, DRIVERS_FROM, MOST_DEVICES, MOST_DRIVERS, MOST_ENTRIES, MOST_ITEMS, MOST_OBJECTS,
-                    MOST_VALUES, SMALL_ROOM, WIDE_AREA, area_of, number, record_at, row)
+                    MOST_VALUES, SMALL_ROOM, WIDE_AREA, area_of, locks_from, number, record_at, row)
 from vectors_write import last_hardcoded, naming, refused
 
 # The lines and the lengths of the request's table.
@@ -98,7 +98,7 @@ def absent():
     for objects, last in ((97, 192), (191, 192), (0, 96), (95, 96)):
         line, length, behind = row(data(objects)), area_of(objects), record_at(objects + 1)
         cases = {"the state as it is": {}, "the partition of the next": {1: 1, behind: 1},
-                 "the last byte": {length - 1: 1}}
+                 "the last byte": {locks_from(objects) - 1: 1}}
         if objects + 1 < last:
             cases |= {"a byte of the next": {behind + 1: 1}, f"the partition of {last}": {1: 1, record_at(last): 1}}
         for name, changes in cases.items():

@@ -18,8 +18,9 @@ def creating(line_l):
             yield f"code {code} on a standing of {standing}", line_l, {SOME: standing}, [code, SOME], answer
     for partition, answer in ((LAST, 0), (0, 11), (PARTITIONS, 11), (70, 11), (65535, 11)):
         yield f"code 13 with partition {partition}", line_l, {}, [13, partition], answer
-    for code in (14, 15):
-        yield f"code {code} is unknown", line_l, {}, [code, 1], 10
+    # Unknown until request N6: lock and unlock a card.
+    for code, answer in ((14, 0), (15, 23)):
+        yield f"code {code} on a fresh state", line_l, {}, [code, 1], answer
     yield "code 13, a byte left over", line_l, {}, [13, 1, 0], 10
     yield "code 13 with two partitions", line_l, {}, [13, 1, 2], 10
 
@@ -56,8 +57,8 @@ def records():
     yield "10: code 13, a byte left over", row([13, 1]) + b"\0", 10
     yield "10: code 13, a partition in two bytes", row([13]) + bytes([0x81, 0]), 10
     yield "10: code 13 in two bytes", bytes([0x8D, 0, 1]), 10
-    for code in (14, 15, 141):
-        yield f"10: code {code}", row([code, 1]), 10
+    for code, answer in ((14, 0), (15, 0), (141, 10)):
+        yield f"10: code {code}", row([code, 1]), answer
 
 
 def standings():
