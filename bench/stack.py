@@ -158,7 +158,7 @@ def table(folder):
 
 def try_faults(folder):
     """Each fault makes the first row that it spoils fail, and for the reason that is expected."""
-    program = build(f"{folder}/faulty", *SOURCES, "tests/faulty.c", "tests/faulty_kinds.c", WRAP)
+    program = build(f"{folder}/faulty", *SOURCES, *(f"tests/faulty{part}.c" for part in ("", "_kinds", "_locks")), WRAP)
     for name, expected in FAULTS.items():
         said = next((fault for _, row in rows(program, folder, name) for fault in faults(row)), "nothing")
         if not said.startswith(expected):

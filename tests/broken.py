@@ -26,7 +26,7 @@ SCRIPTS = {
     "a wrong place": '"$OFFICE" | sed "2s/^2/3/"',
     "a place with a zero before it": '"$OFFICE" | sed "2s/^/0/"',
     "an answer with a zero before it": '"$OFFICE" | sed "2s/ / 0/"',
-    "an answer of 23": '"$OFFICE" | sed "2s/ .*/ 23/"',
+    "an answer of 24": '"$OFFICE" | sed "2s/ .*/ 24/"',
     "an answer of 100": '"$OFFICE" | sed "2s/ .*/ 100/"',
     "an answer below 0": '"$OFFICE" | sed "2s/ / -/"',
     "no answer": '"$OFFICE" | sed "2s/ .*/ /"',

@@ -2,7 +2,7 @@
 
 #include "effect.h"
 
-// The state area: standings, drivers, devices, then a partition and sixteen bytes for each object.
+// The state area: standings, drivers, devices, then a partition and sixteen bytes for each object, then the locks.
 enum { DRIVERS_FROM = MOST_PARTITION + 1, DEVICES_FROM = DRIVERS_FROM + MOST_OWNERS };
 
 // A number in groups of seven bits, the lowest first.
@@ -56,8 +56,12 @@ size_t record_at(unsigned object) {
     return OBJECTS_FROM + RECORD_BYTES * (size_t)(object - 1);
 }
 
+size_t lock_at(const uint8_t *line, unsigned card) {
+    return record_at(room_of(line) + 1) + card - 1;
+}
+
 size_t state_bytes_of(const uint8_t *line) {
-    return record_at(room_of(line) + 1);
+    return lock_at(line, MOST_OWNERS + 1);
 }
 
 static int within(unsigned number, unsigned most) {
@@ -185,6 +189,8 @@ int record_fits(const uint8_t *line, const uint8_t *record, size_t length) {
         return within(record[1], MOST_PARTITION) && list_fits(line, record, length);
     case 10:
     case 11:
+    case 14:
+    case 15:
         return within(record[1], line[record[0] == 10 ? DRIVERS_AT : DEVICES_AT]) && length == 2;
     }
     return 0;
@@ -252,6 +258,17 @@ unsigned first_bad_of(const uint8_t *line, const uint8_t *state) {
         object++;
     }
     return object <= room_of(line) ? object : 0;
+}
+
+int locks_right(const uint8_t *line, const uint8_t *state) {
+    for (unsigned card = 1; card <= MOST_OWNERS; card++) {
+        uint8_t lock = state[lock_at(line, card)];
+        int may_be = card <= line[DEVICES_AT] && state[owner_at(BY_DEVICE, (uint8_t)card)] == 0;
+        if (lock != UNLOCKED && (lock != LOCKED || !may_be)) {
+            return 0;
+        }
+    }
+    return 1;
 }
 
 void follow_fresh(const uint8_t *line, uint8_t *state) {
@@ -358,6 +375,12 @@ void follow_operation(const uint8_t *line, const uint8_t *record, uint8_t *state
         break;
     case 12:
         move_listed(line, state, record, 0);
+        break;
+    case 14:
+        state[lock_at(line, record[1])] = LOCKED;
+        break;
+    case 15:
+        state[lock_at(line, record[1])] = UNLOCKED;
         break;
     }
 }

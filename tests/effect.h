@@ -27,8 +27,10 @@ enum { CONTENT = 16 };
 // each object that there may be.
 enum { MOST_SMALL = 96 };
 
-// Where a state area has its first record, and the bytes of one: an object's partition, and its contents.
+// Where a state area has its first record, and the bytes of one: an object's partition, and its contents. Behind the
+// last record there is a lock byte for each card that there may be.
 enum { OBJECTS_FROM = MOST_PARTITION + 1 + 2 * MOST_OWNERS, RECORD_BYTES = 1 + CONTENT };
+enum { UNLOCKED = 0, LOCKED = 1 };
 
 // The number at a place before the end: where the next one stands; NULL if questions 1 and 2 refuse it.
 const uint8_t *number_at(const uint8_t *at, const uint8_t *end, unsigned *number);
@@ -42,9 +44,11 @@ unsigned values_of(const uint8_t *line);
 unsigned room_of(const uint8_t *line);
 size_t state_bytes_of(const uint8_t *line);
 
-// Where a state area has the record of an object, and the partition of a driver or card.
+// Where a state area has the record of an object, and the partition of a driver or card; and a card's lock byte in that
+// of an accepted line file.
 size_t record_at(unsigned object);
 size_t owner_at(uint8_t class, uint8_t owner);
+size_t lock_at(const uint8_t *line, unsigned card);
 
 // The three numbers of an object in an accepted line file: kind, owner class, owner number. Behind the last object's
 // are the devices' hardcoded value numbers.
@@ -59,6 +63,10 @@ int record_fits(const uint8_t *line, const uint8_t *record, size_t length);
 // The first object whose record in the state area of an accepted line file breaks a rule of a well formed state, also
 // one that the line does not have; 0 if none does. The area has the length that the line needs.
 unsigned first_bad_of(const uint8_t *line, const uint8_t *state);
+
+// Whether the lock bytes in the state area of an accepted line file keep their rules: each is 0 or 1, and 0 for a card
+// that is active or that the line does not have.
+int locks_right(const uint8_t *line, const uint8_t *state);
 
 // Makes of a state area the fresh one of an accepted line file.
 void follow_fresh(const uint8_t *line, uint8_t *state);

@@ -22,6 +22,18 @@
 // Faults about green zones:
 //   plain-zone        a green zone is created as any other one
 //   as-plain CODE     records of that code are judged as if no zone were green
+// Faults about locks (tests/faulty_locks.c):
+//   as-unlocked CODE  records of that code are judged as if no card were locked
+//   lock-unset        locking a card leaves its lock byte 0
+//   unlock-unset      unlocking a card leaves its lock byte 1
+//   fixed-locks       the lock bytes of wide lines are taken to be where small lines have them
+//   active-lock       question 9 lets a locked card be active
+//   absent-lock       question 9 does not look at the lock bytes of cards that the line does not have
+//   any-lock          question 9 takes every lock byte for one
+//   early-23          question 23 is put before 16
+//   fresh-keeps       a fresh state keeps the lock bytes that were there
+//   leave-unlocks     a card that leaves takes all locks with it
+//   named-locks       gate_first_bad looks at the lock bytes too, and names the last record for them
 // Faults of gate_state_bytes alone (tests/faulty_kinds.c has these and those that follow):
 //   told ANSWER       it answers that
 //   one-off           it takes a line of 97 objects for a small one
@@ -123,7 +135,7 @@ static const struct lent *faulty_area(const struct call *call) {
     return NULL;
 }
 
-static void go_on(struct call *call) {
+void go_on(struct call *call) {
     const struct lent *a = call->areas;
     const uint8_t *line = (const uint8_t *)a[0].at, *record = (const uint8_t *)a[2].at;
     uint8_t *state = (uint8_t *)a[1].at;
@@ -150,10 +162,10 @@ static void go_on(struct call *call) {
     }
 }
 
-// The real operation with the last record of the area out of sight.
+// The real operation with the last record of the area out of sight; the lock bytes stand behind it.
 static void go_on_without_last(struct call *call) {
     struct lent *state = &call->areas[1];
-    uint8_t *last = (uint8_t *)state->at + state->length - RECORD_BYTES, hidden[RECORD_BYTES];
+    uint8_t *last = (uint8_t *)state->at + state->length - SORTER_GATE_LOCK_BYTES - RECORD_BYTES, hidden[RECORD_BYTES];
     memcpy(hidden, last, RECORD_BYTES);
     memset(last, 0, RECORD_BYTES);
     go_on(call);
@@ -251,6 +263,8 @@ static uint64_t spoilt(struct call *call) {
     } else if (is("as-plain") && record->length > 0 && record->at[0] == wanted_number() &&
                call->areas[1].length >= PARTITIONS) {
         go_on_as_plain(call);
+    } else if (has_locks(call)) {
+        go_on_locks(call);
     } else {
         go_on(call);
     }

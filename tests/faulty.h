@@ -63,7 +63,14 @@ static inline unsigned announced_objects(const struct call *call) {
     return count[0] < LONG_FROM ? count[0] : count[0] % LONG_FROM + LONG_FROM * count[1];
 }
 
+// The real call.
+void go_on(struct call *call);
+
 // The faults of a call whose answer has a kind, after the real call.
 void spoil_with_kind(struct call *call);
+
+// Whether a call has a line and a state area of a length that has lock bytes; the real call with the faults about them.
+int has_locks(const struct call *call);
+void go_on_locks(struct call *call);
 
 #endif

@@ -7,12 +7,16 @@
 #include "sorter_gate.h"
 
 // A place in the area of a sound line: before the records, in the first or the last one, in those on both sides of the
-// line's end, or anywhere.
+// line's end, among the lock bytes behind them, or anywhere.
 static size_t some_place(const uint8_t *sound) {
     unsigned objects = objects_of(sound);
     const unsigned ends[] = {1, room_of(sound), objects > 0 ? objects : 1, objects + 1};
-    size_t kind = below(8);
-    size_t place = kind < 4 ? record_at(ends[kind]) + below(RECORD_BYTES) : below(kind < 6 ? OBJECTS_FROM : PAGE);
+    size_t kind = below(9), place = below(kind < 6 ? OBJECTS_FROM : PAGE);
+    if (kind < 4) {
+        place = record_at(ends[kind]) + below(RECORD_BYTES);
+    } else if (kind == 8) {
+        place = lock_at(sound, 1) + below(MOST_OWNERS);
+    }
     return place % areas[STATE].length;
 }
 
@@ -53,6 +57,9 @@ static void check_answer(uint64_t answer, uint32_t operated) {
     if (number && found_sound(operated)) {
         complain("named record %u of a state that an operation, answered by %u, found well formed", number, operated);
     }
+    if (found_sound(operated) && !locks_right(own_start(LINE), own_start(STORED))) {
+        complain("was asked for a state whose locks break a rule, and an operation answered %u", operated);
+    }
 }
 
 static void count(struct first_bads *tally, uint64_t answer, uint32_t operated) {
@@ -69,6 +76,8 @@ static void count(struct first_bads *tally, uint64_t answer, uint32_t operated) 
     } else {
         tally->sound += found_sound(operated);
         tally->head += operated == SORTER_GATE_STATE_FORM;
+        tally->locks[room_of(line) > MOST_SMALL] +=
+            operated == SORTER_GATE_STATE_FORM && !locks_right(line, own_start(STORED));
     }
 }
 
@@ -88,13 +97,17 @@ void demand_first_bads(const struct first_bads *tally) {
     demand(tally->absent[1], "named a record that is no object's of a wide line");
     demand(tally->sound, "named no record of a well formed state");
     demand(tally->head, "named no record of a state that question 9 refuses");
+    demand(tally->locks[0], "named no record of a small line's state whose locks break a rule");
+    demand(tally->locks[1], "named no record of a wide line's state whose locks break a rule");
     demand(tally->empty_line, "got an empty line");
     demand(tally->empty_state, "got an empty state");
     demand_refusals(tally->refused, AREA_QUESTIONS);
 }
 
 void print_first_bads(const struct first_bads *tally) {
-    printf("records named of small lines %lu, of wide lines %lu, none of a state that 9 refuses %lu, ",
-           tally->present[0] + tally->absent[0], tally->present[1] + tally->absent[1], tally->head);
+    printf(
+        "records named of small lines %lu, of wide lines %lu, none of a state that 9 refuses %lu, by its locks %lu, ",
+        tally->present[0] + tally->absent[0], tally->present[1] + tally->absent[1], tally->head,
+        tally->locks[0] + tally->locks[1]);
     print_refusals(tally->refused, AREA_QUESTIONS);
 }

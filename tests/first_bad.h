@@ -8,9 +8,10 @@
 #include "refusals.h"
 
 // How often what must come came: a record named that is an object's and one that is not, on small lines and on wide
-// ones; none named of a well formed state, and of one that is not; each refusal; an empty line or area.
+// ones; none named of a well formed state, of one that is not, and of one whose lock bytes break a rule, on lines of
+// both kinds; each refusal; an empty line or area.
 struct first_bads {
-    unsigned long present[2], absent[2], sound, head, refused[AREA_QUESTIONS + 1], empty_line, empty_state;
+    unsigned long present[2], absent[2], sound, head, locks[2], refused[AREA_QUESTIONS + 1], empty_line, empty_state;
 };
 
 // Damages the state area, now and then and in up to three places, which may leave it well formed.

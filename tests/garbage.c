@@ -1,11 +1,11 @@
 // Throws random and mutated inputs of every length at the six functions, twice: in the first pass each area ends where
 // a forbidden page begins, in the second each begins where one ends, and line and record cannot be written. So a byte
 // that is read or written beside an area is seen. A refusal leaves state and answer area as they were, an accepted call
-// leaves what document 01 says, and no answer is one that tests/green.c has something against; the same inputs get the
-// same answers in both passes; and in each pass, on small lines and on wide ones, every number is answered, every code
-// is accepted and an area of the other lines' length is refused, and every area is empty at least once. Then in each
-// pass what tests/rooms.c tries out one by one. (tests/rewriting.c, state_bytes.c and first_bad.c hold the functions
-// whose answers have a kind to what they must answer.)
+// leaves what document 01 says, and no answer is one that tests/green.c or tests/locks.c has something against; the
+// same inputs get the same answers in both passes; and in each pass, on small lines and on wide ones, every number is
+// answered, 23 to each of its codes, every code is accepted and an area of the other lines' length is refused, and
+// every area is empty at least once. Then in each pass what tests/rooms.c tries out one by one. (tests/rewriting.c,
+// state_bytes.c and first_bad.c hold the functions whose answers have a kind to what they must answer.)
 //   garbage TIMES SEED   makes TIMES calls in each pass; prints how often each number came, and each code was accepted;
 //                        to be called in the repository's root
 #include <stdio.h>
@@ -17,20 +17,21 @@
 #include "first_bad.h"
 #include "green.h"
 #include "inputs.h"
+#include "locks.h"
 #include "rewriting.h"
 #include "rooms.h"
 #include "sorter_gate.h"
 #include "state_bytes.h"
 
 // A session is a fresh state and the calls after it, on one sound line.
-enum { NUMBERS = 23, CODES = 14, SESSION = 256 };
+enum { NUMBERS = 24, CODES = 16, SESSION = 256 };
 
 // The calls that judge: their answer is a number alone.
 enum call { LOAD_CHECK, FRESH, OPERATE, CALLS };
 
 // For each its name, the last question that it puts, and how many of the areas it takes, the first ones.
 static const char *const CALL_TEXTS[CALLS] = {"gate_load_check", "gate_fresh", "gate_operate"};
-static const uint32_t LAST_NUMBERS[CALLS] = {6, 7, 22};
+static const uint32_t LAST_NUMBERS[CALLS] = {6, 7, 23};
 static const int TAKES[CALLS] = {LINE + 1, STATE + 1, ANSWER + 1};
 
 // What came on small lines, and on wide ones.
@@ -38,7 +39,8 @@ enum { SMALL, WIDE, SIZES };
 static const char *const SIZE_TEXTS[SIZES] = {"small", "wide"};
 
 struct tally {
-    unsigned long numbers[SIZES][NUMBERS], codes[SIZES][CODES], other_length[SIZES], long_named, empty[CALLS][AREAS];
+    unsigned long numbers[SIZES][NUMBERS], codes[SIZES][CODES], locked[SIZES][CODES], other_length[SIZES];
+    unsigned long long_named, empty[CALLS][AREAS];
     struct rewritings rewritings;
     struct state_lengths state_lengths;
     struct first_bads first_bads;
@@ -125,15 +127,18 @@ static void follow(enum call call, struct tally *tally) {
     }
 }
 
-// Holds an answer to what green zones ask, if the record meets the questions before; the state is not changed yet where
-// it is expected.
-static void hold_green(uint32_t number) {
-    const uint8_t *line = own_start(LINE), *record = own_start(RECORD);
-    if ((number && number < SORTER_GATE_OUTSIDE) || !line_fits(line, areas[LINE].length) ||
+// Holds an answer to what locks and green zones ask, if the record meets the questions before; the state is not changed
+// yet where it is expected.
+static void hold_rules(uint32_t number) {
+    const uint8_t *line = own_start(LINE), *record = own_start(RECORD), *state = expected_start(STATE);
+    if ((number && number <= SORTER_GATE_RECORD) || !line_fits(line, areas[LINE].length) ||
         areas[STATE].length != state_bytes_of(line) || !record_fits(line, record, areas[RECORD].length)) {
         return;
     }
-    const char *fault = green_fault(line, expected_start(STATE), record, number);
+    const char *fault = lock_fault(line, state, record, number);
+    if (!fault && (number == SORTER_GATE_ACCEPTED || number >= SORTER_GATE_OUTSIDE)) {
+        fault = number == SORTER_GATE_LOCKED ? NULL : green_fault(line, state, record, number);
+    }
     if (fault) {
         complain("answered %u, and %s", number, fault);
     }
@@ -163,7 +168,7 @@ static uint32_t checked_call(enum call call, struct tally *tally) {
     }
     compare_passes(number);
     if (call == OPERATE) {
-        hold_green(number);
+        hold_rules(number);
     }
     if (number == 0) {
         follow(call, tally);
@@ -171,6 +176,9 @@ static uint32_t checked_call(enum call call, struct tally *tally) {
     compare(STATE, number);
     compare(ANSWER, number);
     tally->numbers[size_of_sound()][number]++;
+    if (number == SORTER_GATE_LOCKED) {
+        tally->locked[size_of_sound()][own_start(RECORD)[0]]++;
+    }
     tally->other_length[size_of_sound()] += number == SORTER_GATE_STATE_LENGTH && areas[STATE].length == other_length();
     return number;
 }
@@ -256,6 +264,13 @@ static void demand_of(const struct tally *tally, int size) {
             complain("never answered %u on %s lines", number, SIZE_TEXTS[size]);
         }
     }
+    static const uint8_t asking[] = {SORTER_GATE_CODE_ACTIVATE_CARD, SORTER_GATE_CODE_LOCK_CARD,
+                                     SORTER_GATE_CODE_UNLOCK_CARD};
+    for (size_t i = 0; i < sizeof asking; i++) {
+        if (!tally->locked[size][asking[i]]) {
+            complain("never answered 23 to code %u on %s lines", asking[i], SIZE_TEXTS[size]);
+        }
+    }
     if (!tally->other_length[size]) {
         complain("never got an area of the other length on %s lines", SIZE_TEXTS[size]);
     }
@@ -331,6 +346,11 @@ int main(int argc, char **argv) {
     }
     for (int code = 1; code < CODES; code++) {
         print_row("accepted of code ", code, first->codes[SMALL], first->codes[WIDE]);
+    }
+    for (int code = 1; code < CODES; code++) {
+        if (first->locked[SMALL][code]) {
+            print_row("23 to code ", code, first->locked[SMALL], first->locked[WIDE]);
+        }
     }
     print_rewritings(&first->rewritings);
     print_state_bytes(&first->state_lengths);

@@ -13,7 +13,7 @@ trap 'rm -rf "$out"' EXIT
 # The sanitizers watch the test's own code alone: the library is not built for them.
 flags=(-std=c11 -O2 -Wall -Wextra -Werror -Iinclude -g -fsanitize=address,undefined)
 parts=()
-for name in garbage areas effect green inputs refusals rewriting state_bytes first_bad rooms; do
+for name in garbage areas effect green inputs locks refusals rewriting state_bytes first_bad rooms; do
     gcc "${flags[@]}" -c -o "$out/$name.o" "tests/$name.c"
     parts+=("$out/$name.o")
 done
@@ -24,14 +24,15 @@ wrapped=()
 for name in load_check state_bytes fresh operate first_bad rewrite; do
     wrapped+=("-Wl,--wrap=gate_$name")
 done
-gcc "${flags[@]}" -o "$out/faulty" "${parts[@]}" tests/faulty{,_kinds}.c target/staticlib/libgate.a "${wrapped[@]}"
+faulty=(tests/faulty{,_kinds,_locks}.c target/staticlib/libgate.a "${wrapped[@]}")
+gcc "${flags[@]}" -o "$out/faulty" "${parts[@]}" "${faulty[@]}"
 few=100000
 seen=0
 
 # Areas of before request N6, with zeros where the lock bytes are now, get the answers of before, call by call.
 stored=tests/stored/older.txt
 gcc "${flags[@]}" -o "$out/older" tests/older.c target/staticlib/libgate.a
-gcc "${flags[@]}" -o "$out/older-faulty" tests/older.c tests/faulty{,_kinds}.c target/staticlib/libgate.a "${wrapped[@]}"
+gcc "${flags[@]}" -o "$out/older-faulty" tests/older.c "${faulty[@]}"
 "$out/older" < $stored > "$out/rows"
 cmp "$out/rows" $stored
 echo "host: $(grep -c ' = ' $stored) calls on areas of before, each answered and done as before"
@@ -111,19 +112,28 @@ wrong_rewriting() {
     must_tell "always $((3 << 32))" "gate_rewrite answered the kind 3, which there is not"
 }
 
+# The two lengths of a state area, as the header has them.
+length_of() {
+    sed -n "s/^#define $1 //p" include/sorter_gate.h
+}
+small=$(length_of SORTER_GATE_STATE_BYTES)
+wide=$(length_of SORTER_GATE_STATE_BYTES_WIDE)
+
 # What gate_state_bytes may not answer.
 wrong_state_bytes() {
-    must_tell "one-off" "gate_state_bytes told 1728 bytes for a line of 97 objects, which needs 3360"
+    must_tell "one-off" "gate_state_bytes told $small bytes for a line of 97 objects, which needs $wide"
     must_tell "told-question" "gate_state_bytes refused by [2-7] a line to which a load check answers [1-6]"
     must_tell "told-let-by" "gate_state_bytes did not refuse a line that a load check refuses by [1-6]"
     # A constant: each of the two lengths, another one, refused by 3 and by none, and kinds that it has not.
     local objects="bytes for a line of [0-9]+ objects, which needs"
-    must_tell "told 1728" "gate_state_bytes (told 1728 $objects 3360|did not .*)"
-    must_tell "told 3360" "gate_state_bytes (told 3360 $objects 1728|did not .*)"
-    must_tell "told 1727" "gate_state_bytes (told 1727 $objects [0-9]+|did not .*)"
+    must_tell "told $small" "gate_state_bytes (told $small $objects $wide|did not .*)"
+    must_tell "told $wide" "gate_state_bytes (told $wide $objects $small|did not .*)"
+    for other in $((small - 1)) $((small - $(length_of SORTER_GATE_LOCK_BYTES))); do
+        must_tell "told $other" "gate_state_bytes (told $other $objects [0-9]+|did not .*)"
+    done
     must_tell "told $((1 << 32 | 3))" "gate_state_bytes refused by 3 a line to which a load check answers [^3]"
     must_tell "told $((1 << 32))" "gate_state_bytes refused by 0 a line to which a load check answers [0-9]"
-    must_tell "told $((2 << 32 | 1728))" "gate_state_bytes answered the kind 2, which is none of its kinds"
+    must_tell "told $((2 << 32 | small))" "gate_state_bytes answered the kind 2, which is none of its kinds"
 }
 
 # What gate_first_bad may not answer.
@@ -172,6 +182,33 @@ wrong_green() {
     done
 }
 
+# What concerns locks.
+wrong_locks() {
+    local left="accepted \(0\), and did not leave the state as document 01 says at place [0-9]+"
+    local other="and (a card's partition or lock asks for another answer|nothing is in the way of the card's lock)"
+    local broken="(gate_operate answered [0-9]+, and a lock byte breaks a rule"
+    broken+="|gate_first_bad was asked for a state whose locks break a rule, and an operation answered [0-9]+)"
+    must_tell "as-unlocked 8" "gate_operate answered (0|21|22), $other"
+    must_tell "as-unlocked 14" "gate_operate answered 0, $other"
+    must_tell "as-unlocked 15" "gate_operate answered 23, $other"
+    must_tell "lock-unset" "gate_operate $left"
+    must_tell "unlock-unset" "gate_operate $left"
+    must_tell "fixed-locks" "gate_operate $left"
+    must_tell "leave-unlocks" "gate_operate $left"
+    must_tell "fresh-keeps" "gate_fresh $left"
+    must_tell "active-lock" "$broken"
+    must_tell "absent-lock" "$broken"
+    must_tell "any-lock" "$broken"
+    must_tell "early-23" "gate_operate answered 23, $other"
+    must_tell "named-locks" "gate_first_bad named record [0-9]+, and the first that breaks a rule is 0"
+    must_tell "instead 23 0" "gate_operate answered 0, $other"
+    must_tell "instead 23 16" "gate_operate answered 16, $other"
+    must_tell "instead 16 23" "gate_operate answered 23, (and its code does not ask for a lock|$other)"
+    must_tell "never 23" "the library never answered 23 on small lines"
+    must_tell "refuse 14" "the library never accepted code 14 on small lines"
+    must_tell "refuse 15" "the library never accepted code 15 on small lines"
+}
+
 # Without a fault the few inputs are enough to pass.
 GATE_FAULT=none "$out/faulty" $few 1 > "$out/rows"
 for area in line state record answer; do
@@ -199,10 +236,11 @@ wrong_state_bytes
 wrong_first_bad
 wrong_rooms
 wrong_green
+wrong_locks
 must_tell "constant 0" "gate_fresh accepted \(0\), and did not leave the state as document 01 says at place [0-9]+"
 must_tell "constant 7" "gate_fresh refused a fresh state of a sound line by 7"
 must_tell "constant 10" "gate_fresh answered 10, which is none of its numbers"
-must_tell "constant 23" "gate_fresh answered 23, which is none of its numbers"
+must_tell "constant 24" "gate_fresh answered 24, which is none of its numbers"
 for number in 1 2 3 4; do
     must_tell "instead $number 0" "gate_(load_check|fresh|operate) accepted \(0\) a line that it must refuse"
 done

@@ -45,6 +45,10 @@ static const uint8_t RECORDS_L[][24] = {
     {5, 3, 1, 1, 2, 2},
     {6, 1, 1, 1, 2, 0, 3},
     {21, 2, 1, 1, 5, 1, 10, 11, 12, 13, 14, 15, 16, 17, 18, 19, 20, 21, 22, 23, 24, 25},
+    {2, 14, 1},
+    {2, 14, 2},
+    {2, 15, 1},
+    {2, 15, 2},
 };
 
 // What is done on that one.
@@ -59,6 +63,8 @@ static const uint8_t RECORDS_HELD[][24] = {
     {2, 10, 2},
     {2, 11, 1},
     {4, 12, 1, 1, 5},
+    {2, 14, 1},
+    {2, 15, 1},
 };
 
 // Lines whose numbers have one byte each and whose values one entry each, with what is done on them.
@@ -337,7 +343,7 @@ size_t opening_record(const uint8_t *sound, size_t step, uint8_t *to) {
 
 // A record whose numbers nearly all exist, often one that stores or reads; few partitions, so that things meet in one.
 static size_t random_record(const uint8_t *line, uint8_t *to) {
-    uint8_t code = (uint8_t)(below(2) ? 1 + below(13) : 1 + below(4));
+    uint8_t code = (uint8_t)(below(2) ? 1 + below(15) : 1 + below(4));
     int by_partition = code == 5 || code == 6 || code == 9 || code == 12 || code == 13;
     int by_driver = code == 1 || code == 3 || code == 7 || code == 10;
     to[0] = code;

@@ -18,8 +18,11 @@ static const unsigned WIDE[] = {MOST_SMALL + 1, LONG_FROM - 1, LONG_FROM, MOST_O
 // Records: create partition 1, and none, which looks at the areas and changes nothing.
 static const uint8_t CREATE[] = {SORTER_GATE_CODE_CREATE_PARTITION, 1};
 
-_Static_assert(SORTER_GATE_STATE_BYTES == OBJECTS_FROM + RECORD_BYTES * MOST_SMALL, "the small area's length");
-_Static_assert(SORTER_GATE_STATE_BYTES_WIDE == OBJECTS_FROM + RECORD_BYTES * MOST_OBJECTS, "the wide area's length");
+_Static_assert(SORTER_GATE_LOCK_BYTES == MOST_OWNERS, "the number of lock bytes");
+_Static_assert(SORTER_GATE_STATE_BYTES == OBJECTS_FROM + RECORD_BYTES * MOST_SMALL + MOST_OWNERS,
+               "the small area's length");
+_Static_assert(SORTER_GATE_STATE_BYTES_WIDE == OBJECTS_FROM + RECORD_BYTES * MOST_OBJECTS + MOST_OWNERS,
+               "the wide area's length");
 
 // The areas that may be written, and their pages as the call must leave them. In the others nothing can be written.
 static const enum area_name WRITTEN[] = {STATE, ANSWER, OUT};
@@ -38,10 +41,10 @@ static void fill(enum area_name name, size_t length, uint8_t byte) {
     memset(areas[name].own, byte, PAGE);
 }
 
-static uint8_t *put_head(uint8_t *at, unsigned drivers, unsigned objects, unsigned values) {
+static uint8_t *put_head(uint8_t *at, unsigned drivers, unsigned cards, unsigned objects, unsigned values) {
     *at++ = 1;
     *at++ = (uint8_t)drivers;
-    *at++ = 0;
+    *at++ = (uint8_t)cards;
     return put_number(put_number(at, objects), values);
 }
 
@@ -55,17 +58,29 @@ static uint8_t *put_object(uint8_t *at, uint8_t kind, uint8_t class, unsigned ow
 // A line of external data alone stands in its area.
 static void lend_data(unsigned objects) {
     static uint8_t line[PAGE];
-    uint8_t *at = put_head(line, 0, objects, 0);
+    uint8_t *at = put_head(line, 0, 0, objects, 0);
     for (unsigned object = 1; object <= objects; object++) {
         at = put_object(at, HARDCODED - 1, EXTERNAL, 0);
     }
     put_area(LINE, line, (size_t)(at - line));
 }
 
+// A line of cards, each of which has its hardcoded descriptor and nothing else, and of external data behind these.
+static void lend_cards(unsigned cards, unsigned objects) {
+    static uint8_t line[PAGE];
+    uint8_t *at = put_head(line, 0, cards, objects, 0);
+    for (unsigned object = 1; object <= objects; object++) {
+        at =
+            object <= cards ? put_object(at, HARDCODED, BY_DEVICE, object) : put_object(at, HARDCODED - 1, EXTERNAL, 0);
+    }
+    memset(at, 0, cards);
+    put_area(LINE, line, (size_t)(at - line) + cards);
+}
+
 // A line of transfer descriptors, with values whose two entries name the last objects.
 static void lend_linked(unsigned objects) {
     static uint8_t line[PAGE];
-    uint8_t *at = put_head(line, MOST_OWNERS, objects, MOST_VALUES);
+    uint8_t *at = put_head(line, MOST_OWNERS, 0, objects, MOST_VALUES);
     for (unsigned object = 1; object <= objects; object++) {
         at = put_object(at, TRANSFER, BY_DRIVER, 1 + object % MOST_OWNERS);
     }
@@ -210,7 +225,7 @@ static void try_absent(struct rooms *tally) {
     unsigned objects = objects_of(own_start(LINE));
     lend_looked_at();
     hold_first_bad(0, "a fresh state of objects", objects);
-    for (size_t place = record_at(objects + 1); place < areas[STATE].length; place++, tally->absent++) {
+    for (size_t place = record_at(objects + 1); place < lock_at(own_start(LINE), 1); place++, tally->absent++) {
         own_start(STATE)[place] = 1;
         hold_first_bad((unsigned)((place - OBJECTS_FROM) / RECORD_BYTES) + 1, "a byte of an absent object at place",
                        place);
@@ -230,6 +245,79 @@ static void try_broken(struct rooms *tally) {
     for (unsigned object = 1; object <= room; object++, tally->broken++) {
         own_start(STATE)[record_at(object)] = 0;
         hold_first_bad(object < room ? object + 1 : 0, "records mended up to", object);
+    }
+}
+
+// The state area with an unbroken walk, well formed or not.
+static void hold_locks(int right, const char *what, size_t which) {
+    keep();
+    hold(operate(), right ? SORTER_GATE_RECORD : SORTER_GATE_STATE_FORM, what, which);
+    hold(first_bad(), 0, what, which);
+}
+
+// Every lock byte with numbers that it can have and that it cannot, all cards of the line inactive, or all in partition
+// 1. The walk over the records finds nothing, whatever they are.
+static void try_lock_bytes(struct rooms *tally, int active) {
+    static const uint8_t bytes[] = {0, LOCKED, 2, 3, 4, 8, 16, 32, 64, 128, 129, 254, 255};
+    const uint8_t *line = own_start(LINE);
+    lend_looked_at();
+    own_start(STATE)[1] = EXISTING;
+    for (unsigned card = 1; card <= line[DEVICES_AT]; card++) {
+        own_start(STATE)[owner_at(BY_DEVICE, (uint8_t)card)] = (uint8_t)active;
+        own_start(STATE)[record_at(card)] = (uint8_t)active;
+    }
+    for (unsigned card = 1; card <= MOST_OWNERS; card++) {
+        uint8_t *lock = own_start(STATE) + lock_at(line, card);
+        for (size_t i = 0; i < sizeof bytes; i++, tally->locks++) {
+            *lock = bytes[i];
+            hold_locks(*lock == 0 || (*lock == LOCKED && !active && card <= line[DEVICES_AT]), "a lock byte at place",
+                       lock_at(line, card));
+        }
+        *lock = 0;
+    }
+}
+
+// One operation on a card: the answer, and the lock byte that it leaves.
+static void hold_locking(uint8_t code, unsigned card, uint32_t wanted, struct rooms *tally) {
+    const uint8_t record[] = {code, (uint8_t)card};
+    put_area(RECORD, record, sizeof record);
+    keep();
+    uint32_t number = operate();
+    if (wanted == SORTER_GATE_ACCEPTED) {
+        expected_state()[lock_at(own_start(LINE), card)] = code == SORTER_GATE_CODE_LOCK_CARD ? LOCKED : UNLOCKED;
+    }
+    hold(number, wanted, code == SORTER_GATE_CODE_LOCK_CARD ? "locking card" : "unlocking card", card);
+    tally->locks++;
+}
+
+// Every number of a card, and one more: locked twice, those before it locked too, then unlocked twice.
+static void try_locking(struct rooms *tally) {
+    const uint8_t *line = own_start(LINE);
+    lend_looked_at();
+    for (unsigned card = 0; card <= MOST_OWNERS + 1; card++) {
+        int known = card >= 1 && card <= line[DEVICES_AT];
+        hold_locking(SORTER_GATE_CODE_UNLOCK_CARD, card, known ? SORTER_GATE_LOCKED : SORTER_GATE_UNKNOWN, tally);
+        hold_locking(SORTER_GATE_CODE_LOCK_CARD, card, known ? SORTER_GATE_ACCEPTED : SORTER_GATE_UNKNOWN, tally);
+        hold_locking(SORTER_GATE_CODE_LOCK_CARD, card, known ? SORTER_GATE_LOCKED : SORTER_GATE_UNKNOWN, tally);
+    }
+    for (unsigned card = 1; card <= line[DEVICES_AT]; card++) {
+        hold_locking(SORTER_GATE_CODE_UNLOCK_CARD, card, SORTER_GATE_ACCEPTED, tally);
+        hold_locking(SORTER_GATE_CODE_UNLOCK_CARD, card, SORTER_GATE_LOCKED, tally);
+    }
+}
+
+static void try_locks(struct rooms *tally) {
+    static const unsigned counts[] = {MOST_OWNERS, MOST_SMALL, MOST_SMALL + 1, MOST_OBJECTS};
+    for (size_t i = 0; i < sizeof counts / sizeof *counts; i++) {
+        for (unsigned cards = 0; cards <= MOST_OWNERS; cards++) {
+            lend_cards(cards, counts[i]);
+            try_locking(tally);
+            // No card or one, all cards that there may be or all but one.
+            if (cards <= 1 || cards >= MOST_OWNERS - 1) {
+                try_lock_bytes(tally, 0);
+                try_lock_bytes(tally, 1);
+            }
+        }
     }
 }
 
@@ -286,11 +374,12 @@ void checked_rooms(struct rooms *tally) {
         try_broken(tally);
     }
     try_counts(tally);
+    try_locks(tally);
     try_all_cuts(tally);
 }
 
 void print_rooms(const struct rooms *tally) {
-    printf(
-        "lengths of areas %lu, counts of objects %lu, bytes of absent objects %lu, broken records %lu, cut lines %lu\n",
-        tally->lengths, tally->counts, tally->absent, tally->broken, tally->cuts);
+    printf("lengths of areas %lu, counts of objects %lu, bytes of absent objects %lu, broken records %lu, locks %lu, "
+           "cut lines %lu\n",
+           tally->lengths, tally->counts, tally->absent, tally->broken, tally->locks, tally->cuts);
 }
