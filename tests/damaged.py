@@ -1,7 +1,7 @@
 #!/usr/bin/env python3
 """The example that restores a state area, examples/controller/restore.c, on areas that are damaged: what it tells of
 each, and that none is used. On lines of both kinds, with files whose checksum fits, as if another program had stored
-the area, and with files whose checksum does not.
+the area, and with files whose checksum does not; and the same with files of before areas had lock bytes.
 
     python3 tests/damaged.py PROGRAM    fails if the built example prints something else, or changes a file
 """
@@ -11,18 +11,19 @@ import subprocess
 import sys
 import tempfile
 
+from layout import DEVICES_FROM, DRIVERS_FROM, MOST_DEVICES, MOST_OBJECTS, SMALL_ROOM, record_at
 from manuals import fnv
 
 # A stored file has the area behind a mark and the line's digest, and a digest of all that behind it.
 DIGEST_AT, AREA_AT, SUM_BYTES = 8, 16, 8
-# Where an area has the partitions' bytes, the drivers' and cards', and the records.
-DRIVERS_AT, CARDS_AT, RECORDS_AT, RECORD_BYTES = 64, 80, 96, 17
-SMALL_ROOM, WIDE_ROOM = 96, 192
-# Partition 9 is never created by the example; 3 is a green zone's standing, and 4 nobody's.
-NOT_CREATED, GREEN, NO_STANDING = 9, 3, 4
+# The mark of before areas had lock bytes.
+OLDER_MARK = b"SGSTATE1"
+# Partition 9 is never created by the example; 3 is a green zone's standing, and 4 nobody's; and 2 is no lock's byte.
+NOT_CREATED, GREEN, NO_STANDING, NO_LOCK = 9, 3, 4, 2
 
 WHOLE, DAMAGED = "state.bin: whole, and of this line", "state.bin: refused: its checksum does not fit"
-IN_HEAD = "no record is broken: the fault is in the bytes of partitions, drivers or cards"
+WHOLE_OLDER = f"{WHOLE}; stored before cards had locks: none is locked"
+OUTSIDE = "no record is broken: the fault is in the bytes of partitions, drivers, cards or locks"
 NOT_SHOWN = "no record is broken: the damage does not show there"
 
 
@@ -30,10 +31,6 @@ def data_line(objects):
     """A line of external data alone."""
     count = [objects] if objects < 128 else [objects, objects >> 7]
     return bytes([1, 0, 0, *count, 0]) + bytes([3, 0, 0]) * objects
-
-
-def record_at(object):
-    return RECORDS_AT + RECORD_BYTES * (object - 1)
 
 
 def broken_records(objects, room):
@@ -46,20 +43,23 @@ def broken_records(objects, room):
         yield {record_at(room + 1) - 1: 1}, room
 
 
-def broken_heads():
+def broken_elsewhere(room, older):
     """Bytes that are no record's: a partition that is neither used nor not, a green zone where no partition stands, an
-    absent driver, an absent card."""
-    return {40: NO_STANDING}, {0: GREEN}, {DRIVERS_AT + 15: 1}, {CARDS_AT + 15: 1}
+    absent driver, an absent card; and, where there are locks, one that is none and an absent card's."""
+    heads = [{40: NO_STANDING}, {0: GREEN}, {DRIVERS_FROM + 15: 1}, {DEVICES_FROM + 15: 1}]
+    locks = record_at(room + 1)
+    return heads if older else heads + [{locks: NO_LOCK}, {locks + MOST_DEVICES - 1: 1}]
 
 
-def tried(data, objects, room):
+def tried(data, objects, room, older):
     """For each damage: its bytes, whether the checksum is made to fit, and what is told after the file's name."""
+    whole = WHOLE_OLDER if older else WHOLE
     for places, object in broken_records(objects, room):
         named = f"the first broken record is that of object {object}"
-        yield places, True, [WHOLE, " 9  look at the area", named]
+        yield places, True, [whole, " 9  look at the area", named]
         yield places, False, [DAMAGED, named]
-    for places in broken_heads():
-        yield places, True, [WHOLE, " 9  look at the area", IN_HEAD]
+    for places in broken_elsewhere(room, older):
+        yield places, True, [whole, " 9  look at the area", OUTSIDE]
         yield places, False, [DAMAGED, NOT_SHOWN]
     # Contents of data are free, so that nothing but the checksum tells; and a file that may be another line's.
     yield {record_at(data) + 1: 7}, False, [DAMAGED, NOT_SHOWN]
@@ -74,6 +74,12 @@ def damaged(stored, places, fits):
     return bytes(file[:-SUM_BYTES]) + fnv(file[:-SUM_BYTES]) if fits else bytes(file)
 
 
+def as_older(stored):
+    """The file as it was stored before areas had lock bytes."""
+    file = OLDER_MARK + stored[DIGEST_AT:-SUM_BYTES - MOST_DEVICES]
+    return file + fnv(file)
+
+
 def start(program, folder):
     """One start of the controller: its rows without the blanks before a text, and its status."""
     done = subprocess.run([program, "state.bin", "line.bin"], cwd=folder, stdout=subprocess.PIPE, text=True, timeout=60)
@@ -86,11 +92,19 @@ def try_line(program, folder, line, data, objects, room):
     (folder / "line.bin").write_bytes(line)
     if start(program, folder)[1] != 0:
         sys.exit(f"damaged: nothing is stored of a line of {objects} objects")
-    stored, count = state.read_bytes(), 0
-    for places, fits, wanted in tried(data, objects, room):
+    today = state.read_bytes()
+    return sum(try_damages(program, folder, stored, older, data, objects, room)
+               for stored, older in ((today, False), (as_older(today), True)))
+
+
+def try_damages(program, folder, stored, older, *line):
+    """Every damage of a file; how many there are."""
+    state, count = folder / "state.bin", 0
+    for places, fits, wanted in tried(*line, older):
         state.write_bytes(damaged(stored, places, fits))
         rows, status = start(program, folder)
-        what = f"{objects} objects, {places}, checksum {'made to fit' if fits else 'left'}"
+        age = "older" if older else "of today"
+        what = f"{line[1]} objects, {age}, {places}, checksum {'made to fit' if fits else 'left'}"
         if rows != wanted or status != 1:
             sys.exit(f"damaged: {what}: it prints {rows} and ends with {status}, and not {wanted} and 1")
         if state.read_bytes() != damaged(stored, places, fits):
@@ -106,8 +120,8 @@ def main():
         folder = pathlib.Path(place)
         # Object 5 of L is external data, as every object of the other lines is.
         count = sum(try_line(program, folder, *row) for row in (
-            (file_l, 5, 6, SMALL_ROOM), (data_line(96), 96, 96, SMALL_ROOM), (data_line(97), 97, 97, WIDE_ROOM),
-            (data_line(192), 192, 192, WIDE_ROOM)))
+            (file_l, 5, 6, SMALL_ROOM), (data_line(96), 96, 96, SMALL_ROOM), (data_line(97), 97, 97, MOST_OBJECTS),
+            (data_line(192), 192, 192, MOST_OBJECTS)))
     print(f"damaged: of {count} damaged areas the example tells the record, and uses none")
 
 

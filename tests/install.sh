@@ -16,7 +16,8 @@ wide_line() {
     for _ in {1..97}; do printf '\3\0\0'; done
 }
 wide_line > "$out/wide.bin"
-wide_bytes=$((3360 + 24))
+wide_area=$(sed -n 's/^#define SORTER_GATE_STATE_BYTES_WIDE //p' include/sorter_gate.h)
+wide_bytes=$((wide_area + 24))
 
 # As docs/CONTROLLER.md tells the reader; the repository's own header is not on the path. Each program ends with 1 if a
 # step does not go as it should. pkg-config writes a blank as the shell reads it, hence the eval.

@@ -1,7 +1,7 @@
 // The example that stores a state area, examples/controller/restore.c, with its system calls in the test's hands
 // (tests/cut_calls.h). A process of its own stores; it is ended after each of its calls, or a call fails; then what was
 // not flushed is lost, as in a power cut, and the area is restored. All with the example's own line, and with one whose
-// state area has the other length.
+// state area has the other length. (tests/storing_before.c restores what was stored before areas had lock bytes.)
 //   storing FOLDER [PART]   all parts, or one of them, by its name in PARTS; to be called in the repository's root
 #define _DEFAULT_SOURCE
 #define main example_main
@@ -280,29 +280,9 @@ static void try_form(const uint8_t *file) {
     if (state_len != wanted) {
         fault("the line's area is taken to have %zu bytes, and not %zu", state_len, wanted);
     }
-    if (memcmp(file, "SGSTATE1", 8) != 0 || !holds(file + 8, digest(line, line_len)) ||
+    if (memcmp(file, "SGSTATE2", 8) != 0 || !holds(file + 8, digest(line, line_len)) ||
         memcmp(file + 16, old_state, wanted) != 0 || !holds(file + 16 + wanted, digest(file, 16 + wanted))) {
         fault("the stored file is not made of mark, digest, area and digest");
-    }
-}
-
-// What was stored when all areas had one length: the file is taken, and stored again it is the same.
-static void try_before(const uint8_t *file) {
-    static uint8_t before[MOST_BYTES], again[MOST_BYTES];
-    (void)file;
-    FILE *f = fopen("tests/stored/state.bin", "rb");
-    size_t count = f ? fread(before, 1, sizeof before, f) : 0;
-    if (!f || fclose(f) != 0 || !begin_line(NULL) || count != file_bytes()) {
-        fault("tests/stored/state.bin is not a stored file of the small line");
-    }
-    put_file(name, before, count);
-    memset(area, OLD_BYTE, sizeof area);
-    if (restore(name, line, line_len, area, state_len) != WHOLE || area[1] != 1 || area[2] != 1 || area[3] != 0) {
-        fault("an area that was stored before is not restored");
-    }
-    stored_bytes(area, again);
-    if (memcmp(before, again, count) != 0) {
-        fault("an area that was stored before is stored otherwise");
     }
 }
 
@@ -344,9 +324,9 @@ static void try_starts(const uint8_t *file) {
 static const struct {
     const char *name;
     void (*run)(const uint8_t *old_file);
-} PARTS[] = {{"digest", try_digest}, {"order", try_order},     {"cuts", try_cuts},    {"errors", try_errors},
-             {"damage", try_damage}, {"lengths", try_lengths}, {"lines", try_lines},  {"unreadable", try_unreadable},
-             {"form", try_form},     {"starts", try_starts},   {"before", try_before}};
+} PARTS[] = {{"digest", try_digest}, {"order", try_order},     {"cuts", try_cuts},   {"errors", try_errors},
+             {"damage", try_damage}, {"lengths", try_lengths}, {"lines", try_lines}, {"unreadable", try_unreadable},
+             {"form", try_form},     {"starts", try_starts}};
 
 // All parts, or the one that is named, with one line.
 static int run_parts(const char *wanted) {

@@ -1,6 +1,7 @@
 // Keeps a state area over a restart. Each run is one start of a controller: it restores the area of the last run, or
 // makes a fresh one if none is stored, looks at it, creates the next partition, and stores the area. An area that is
-// damaged is not used; the technician is told which object's record is broken.
+// damaged is not used; the technician is told which object's record is broken. One that was stored before version 0.2.0
+// has no lock bytes, and is carried over: sixteen zeros are put at its end.
 //   restore FILE [LINE]   prints each step; ends with status 1 if one does not go as it should. The line is that of the
 //                         line file LINE, or a small one that stands here.
 // A controller takes over `store` and `restore`, which are for POSIX systems. docs/CONTROLLER.md says what they are
@@ -15,15 +16,17 @@
 #include "sorter_gate.h"
 
 // A stored file: a mark that names this form, the digest of the line file, the state area, which has the length that
-// the line needs, and the digest of all before.
+// the line needs, and the digest of all before. The older mark names the form of before version 0.2.0, when cards had
+// no locks: its area ends before the lock bytes, and is as much shorter.
 enum { LINE_AT = 8, STATE_AT = 16, SUM_BYTES = 8, MOST_BYTES = STATE_AT + SORTER_GATE_STATE_BYTES_WIDE + SUM_BYTES };
 enum { PATH_BYTES = 4096 };
-static const char MARK[] = "SGSTATE1";
+static const char MARK[] = "SGSTATE2", OLDER_MARK[] = "SGSTATE1";
 
-// What becomes of a restored file. Only a whole one may be used.
-enum stored { WHOLE, ABSENT, UNREADABLE, OTHER_LENGTH, OTHER_FORM, DAMAGED, OTHER_LINE };
+// What becomes of a restored file. Only a whole one may be used, also one that is older.
+enum stored { WHOLE, OLDER, ABSENT, UNREADABLE, OTHER_LENGTH, OTHER_FORM, DAMAGED, OTHER_LINE };
 static const char *const SAYS[] = {
     "whole, and of this line",
+    "whole, and of this line; stored before cards had locks: none is locked",
     "nothing is stored yet",
     "refused: it cannot be read",
     "refused: it has another length",
@@ -113,18 +116,25 @@ static int store(const char *name, const uint8_t *line, size_t line_len, const u
     return write_new(fresh, file, sum_at + SUM_BYTES) && rename(fresh, name) == 0 && flush_folder(name);
 }
 
+// How many bytes of the line's area a file has, which its mark tells.
+static size_t stored_len(const uint8_t *file, size_t count, size_t state_len) {
+    int older = count >= LINE_AT && memcmp(file, OLDER_MARK, LINE_AT) == 0;
+    return older ? state_len - SORTER_GATE_LOCK_BYTES : state_len;
+}
+
 static enum stored judge(const uint8_t *file, size_t count, const uint8_t *line, size_t line_len, size_t state_len) {
-    size_t sum_at = STATE_AT + state_len;
+    size_t area_len = stored_len(file, count, state_len), sum_at = STATE_AT + area_len;
+    enum stored whole = area_len == state_len ? WHOLE : OLDER;
     if (count != sum_at + SUM_BYTES) {
         return OTHER_LENGTH;
     }
-    if (memcmp(file, MARK, LINE_AT) != 0) {
+    if (whole != OLDER && memcmp(file, MARK, LINE_AT) != 0) {
         return OTHER_FORM;
     }
     if (!holds(file + sum_at, digest(file, sum_at))) {
         return DAMAGED;
     }
-    return holds(file + LINE_AT, digest(line, line_len)) ? WHOLE : OTHER_LINE;
+    return holds(file + LINE_AT, digest(line, line_len)) ? whole : OTHER_LINE;
 }
 
 // As many bytes of a file as there is room for, and how many they are.
@@ -139,8 +149,19 @@ static enum stored read_file(const char *name, uint8_t *to, size_t room, size_t 
     return failed ? UNREADABLE : WHOLE;
 }
 
+// An older area becomes one of today by zeros where its lock bytes are to be: no card is locked.
+static void take_area(uint8_t *to, const uint8_t *from, size_t area_len, size_t state_len) {
+    memmove(to, from, area_len);
+    memset(to + area_len, 0, state_len - area_len);
+}
+
+static int may_be_used(enum stored found) {
+    return found == WHOLE || found == OLDER;
+}
+
 // Puts the stored area into `state` if the file is whole and of this line; otherwise `state` is as it was. `state` has
-// the length that the line needs, so that an area of the other length shows.
+// the length that the line needs, so that an area of the other length shows. The file of an older area stays as it is
+// until the next one is stored, which has the lock bytes: the zeros are put there once.
 static enum stored restore(const char *name, const uint8_t *line, size_t line_len, uint8_t *state, size_t state_len) {
     uint8_t file[MOST_BYTES + 1]; // one byte more, so that a longer file shows
     size_t count = 0;
@@ -148,8 +169,8 @@ static enum stored restore(const char *name, const uint8_t *line, size_t line_le
     if (found == WHOLE) {
         found = judge(file, count, line, line_len, state_len);
     }
-    if (found == WHOLE) {
-        memcpy(state, file + STATE_AT, state_len);
+    if (may_be_used(found)) {
+        take_area(state, file + STATE_AT, stored_len(file, count, state_len), state_len);
     }
     return found;
 }
@@ -199,8 +220,12 @@ static void tell_place(const uint8_t *damaged, const char *none) {
 static void tell_damage(const char *name) {
     uint8_t file[MOST_BYTES];
     size_t count = 0;
-    if (read_file(name, file, STATE_AT + state_len, &count) == WHOLE && count == STATE_AT + state_len &&
-        holds(file + LINE_AT, digest(line, line_len))) {
+    if (read_file(name, file, sizeof file, &count) != WHOLE) {
+        return;
+    }
+    size_t area_len = stored_len(file, count, state_len);
+    if (count == STATE_AT + area_len + SUM_BYTES && holds(file + LINE_AT, digest(line, line_len))) {
+        take_area(file + STATE_AT, file + STATE_AT, area_len, state_len);
         tell_place(file + STATE_AT, "the damage does not show there");
     }
 }
@@ -212,7 +237,7 @@ static int look(void) {
     static const uint8_t nothing[1] = {0};
     uint32_t n = call(nothing, 0, "look at the area");
     if (n == SORTER_GATE_STATE_FORM) {
-        tell_place(state, "the fault is in the bytes of partitions, drivers or cards");
+        tell_place(state, "the fault is in the bytes of partitions, drivers, cards or locks");
     }
     return n == SORTER_GATE_RECORD;
 }
@@ -226,7 +251,7 @@ static int begin(const char *name) {
     } else if (found == DAMAGED) {
         tell_damage(name);
     }
-    if (found != ABSENT && found != WHOLE) {
+    if (found != ABSENT && !may_be_used(found)) {
         return 0; // what is on the machine is known to the operator alone
     }
     return look();
