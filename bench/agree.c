@@ -2,11 +2,11 @@
 // them. Half of the calls go on from a fresh state, as a controller's do; the others are made on random areas that are
 // well formed, whose descriptors lead further. Lines of at most 96 objects and wider ones are two kinds, and each kind
 // gets state areas of both lengths. For each kind every number must be answered, and every code accepted and refused by
-// each of the questions that are put to it alone (18 to 22), drivers' writes and reads accepted in green zones too, and
+// each of the questions that are put to it alone (18 to 23), drivers' writes and reads accepted in green zones too, and
 // objects kept in one by what 20 asks there besides; a line rewritten and its state area's length told with each kind
 // of answer, and an area of the other kind's length refused by 7; the first bad record of an area must be an
-// object's, an absent one's, and none, where question 9 is answered with yes and where it is not; and of eight calls at
-// least one has a wide line. Otherwise nothing was compared.
+// object's, an absent one's, and none, where question 9 is answered with yes and where it is not, by the lock bytes and
+// by the bytes before the records; and of eight calls at least one has a wide line. Otherwise nothing was compared.
 //   agree CALLS SEED   prints how many calls were compared; to be called in the repository's root
 #include <inttypes.h>
 #include <stdio.h>
@@ -19,15 +19,15 @@
 #include "plain/plain.h"
 #include "sorter_gate.h"
 
-enum { NUMBERS = 23, CODES = 14, KINDS = 3, SESSION = 64, ROOM = 4096, WIDE_IN = 8 };
+enum { NUMBERS = 24, CODES = 16, KINDS = 3, SESSION = 64, ROOM = 4096, WIDE_IN = 8 };
 // The bytes of a state area before its records.
 enum { HEAD_BYTES = MOST_PARTITION + 1 + 2 * MOST_OWNERS };
 enum call { LOAD_CHECK, FRESH, OPERATE, REWRITE, STATE_LENGTH, FIRST_BAD };
 static const char *const CALLS[] = {"load check", "fresh state",  "operation",
                                     "rewriting",  "state length", "first bad record"};
-// What the first bad record of an area is: none of one that is well formed, or of one that is not; an object's; no
-// object's; or it is not told.
-enum found { WELL_FORMED, HEAD_ALONE, OBJECT, ABSENT, UNTOLD, FOUND };
+// What the first bad record of an area is: none of one that is well formed, or of one that is not, with lock bytes that
+// break a rule or without; an object's; no object's; or it is not told.
+enum found { WELL_FORMED, HEAD_ALONE, LOCKS, OBJECT, ABSENT, UNTOLD, FOUND };
 
 // The areas that a gate may write to, with bytes behind them that it may not.
 struct areas {
@@ -139,10 +139,11 @@ static enum found found_by(uint64_t answer) {
         return answer > objects_of(line) ? ABSENT : OBJECT;
     }
     // An empty record is refused, and changes nothing.
-    return plain_operate(line, line_length, by_plain.state, state_length, record, 0, by_plain.answer, ROOM) ==
-                   SORTER_GATE_STATE_FORM
-               ? HEAD_ALONE
-               : WELL_FORMED;
+    if (plain_operate(line, line_length, by_plain.state, state_length, record, 0, by_plain.answer, ROOM) !=
+        SORTER_GATE_STATE_FORM) {
+        return WELL_FORMED;
+    }
+    return locks_right(line, by_plain.state) ? HEAD_ALONE : LOCKS;
 }
 
 // Counts what an operation was answered in a green zone. An accepted write or read leaves partitions as they are, and a
@@ -260,10 +261,12 @@ static void choose_record(size_t step, int from_fresh) {
     record_length = record_length && below(32) == 0 ? stretch(record, record_length) : record_length;
 }
 
-// A byte of the state that is to be spoilt: before the records as often as anywhere, if their first bad one is asked
-// for.
+// A byte of the state that is to be spoilt: before the records and behind them as often as anywhere, if their first bad
+// one is asked for.
 static uint8_t *some_byte(enum call call) {
-    return &by_library.state[below(call == FIRST_BAD && below(2) ? HEAD_BYTES : state_bytes())];
+    size_t kind = call == FIRST_BAD ? below(3) : 2;
+    size_t place = below(kind == 0 ? HEAD_BYTES : kind == 1 ? MOST_OWNERS : state_bytes());
+    return &by_library.state[kind == 1 ? lock_at(sound, 1) + place : place];
 }
 
 // One call; a byte of the state that was spoilt in vain is put back.
@@ -307,6 +310,10 @@ static void demand_codes(const struct met *met, const char *lines) {
     }
     demand(met->answered[8][21], lines, "21 for code", 8);
     demand(met->answered[8][22], lines, "22 for code", 8);
+    demand(met->answered[8][23], lines, "23 for code", 8);
+    for (unsigned code = 14; code <= 15; code++) {
+        demand(met->answered[code][23], lines, "23 for code", code);
+    }
 }
 
 static void demand_all(const struct met *met, const char *lines) {

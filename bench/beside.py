@@ -17,8 +17,9 @@ ORDERS = ("rising", "falling", "shuffled")
 # Generated calls that must agree before anything is counted: a gate that is wrong is no mark.
 AGREEING = 200000
 RAW = bytes(range(16))
-# A row that tests/ratios.py holds to a bound.
+# Rows that tests/ratios.py holds to bounds.
 GREEN_WRITE = "green: driver writes eight descriptors, dense"
+CREATING, LOCKING, UNLOCKING = "create a partition, dense", "lock a card, dense", "unlock a card, dense"
 # An answer that has a kind: the kind's words, and what it counts.
 DONE, SHORT, KIND_UNIT = 0, 2, 2 ** 32
 KINDS = {DONE: "done", SHORT: "short"}
@@ -88,6 +89,17 @@ def green_cases(size):
     yield "green: ring card refused, dense", "operate", ring, vectors.row([8, 1, 1]), "22"
 
 
+def lock_cases(size):
+    """The same of a card's lock (request N6), beside the creating of a partition in the same state, which looks at the
+    area and changes a byte of it too."""
+    free, locked = full.without_device(**size), full.without_device(locked=True, **size)
+    card = free.devices
+    yield CREATING, "operate", free, vectors.row([5, 3]), "0"
+    yield LOCKING, "operate", free, vectors.row([14, card]), "0"
+    yield UNLOCKING, "operate", locked, vectors.row([15, card]), "0"
+    yield "locked card refused, dense", "operate", locked, vectors.row([8, card, 1]), "23"
+
+
 def leave_eight(line):
     """The external data but for the first, which values name."""
     return vectors.row([12, 1, 8] + line.data[1:])
@@ -117,6 +129,7 @@ def cases(size):
     yield "object leaves, dense", "operate", dense, vectors.row([12, 1, 1, last]), "0"
     yield "card writes eight items, dense", "operate", dense, card_writes(dense), "0"
     yield from green_cases(size)
+    yield from lock_cases(size)
     yield "rewrite the line", "rewrite", dense, b"", str(len(dense.file()))
     yield "first bad record, none, dense", "walk", dense, b"", "0"
 

@@ -56,10 +56,11 @@ def little(**size):
     return line
 
 
-def without_device(**size):
-    """As mixed, but the last device is inactive, with what it owns."""
+def without_device(locked=False, **size):
+    """As mixed, but the last device is inactive, with what it owns, and locked if that is wanted."""
     line = mixed(**size)
     line.asleep = {(2, line.devices)}
+    line.locked = {line.devices} if locked else set()
     return line
 
 

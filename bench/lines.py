@@ -7,7 +7,8 @@ import random
 import sys
 
 sys.path.insert(0, str(pathlib.Path(__file__).resolve().parent.parent / "tests"))
-from layout import DEVICES_FROM, DRIVERS_FROM, MOST_OBJECTS, SMALL_ROOM, area_of, record_at, row  # noqa: E402
+from layout import (DEVICES_FROM, DRIVERS_FROM, MOST_OBJECTS, SMALL_ROOM, area_of, locks_from, record_at,  # noqa: E402
+                    row)
 
 READ, WRITE, BOTH = 1, 2, 3
 # Full size is what the constructors below take if nothing is said. It has as many objects as the shorter state area has
@@ -18,6 +19,8 @@ WIDE = {"devices": 16, "objects": MOST_OBJECTS, "values": 47}
 SIZES = (("full", FULL), ("quarter", QUARTER), ("wide", WIDE))
 # The standings of a partition that exists: any, and a green zone (request N5).
 EXISTING, GREEN = 1, 3
+# The lock byte of a device that is locked (request N6).
+LOCKED = 1
 # A driver of the one partition, and one that is in another wherever a case needs it.
 AT_HOME, STRANGER = 1, 2
 
@@ -26,7 +29,7 @@ class Line:
     """A configuration with everything in partition 1, or in none if `inactive`, but the objects `elsewhere` and the
     drivers `strangers`, which are in 2, and what is `asleep`, a pair of class and owner, or a number for an external
     object, which is in none; objects are (kind, class, owner), and values lists of entries. Partition 1 is a green zone
-    if `green`."""
+    if `green`; the devices `locked` are locked, and must be in none."""
 
     def __init__(self, drivers, devices, objects, values, last=False):
         """The hardcoded descriptors have the smallest numbers, or the largest if `last`."""
@@ -40,6 +43,7 @@ class Line:
         self.elsewhere = set()
         self.strangers = set()
         self.asleep = set()
+        self.locked = set()
         self.inactive = False
         self.green = False
 
@@ -67,6 +71,8 @@ class Line:
             away = (group, owner) in self.asleep or n in self.asleep
             area[record_at(n)] = 2 if n in self.elsewhere else 0 if away else place
             area[record_at(n) + 1] = self.hardcoded[owner] if kind == 4 else self.held.get(n, 0)
+        for device in self.locked:
+            area[locks_from(len(self.objects)) + device - 1] = LOCKED
         return bytes(area)
 
     def rewrite(self, driver):

@@ -107,6 +107,10 @@ void random_state(const uint8_t *line, uint8_t *state) {
         owners[i] = i < line[DRIVERS_AT] ? some_partition(spread) : 0;
         owners[MOST_OWNERS + i] = i < line[DEVICES_AT] ? some_partition(spread) : 0;
     }
+    for (unsigned card = 1; card <= line[DEVICES_AT]; card++) {
+        int inactive = owners[MOST_OWNERS + card - 1] == 0;
+        state[lock_at(line, card)] = inactive && below(2) ? LOCKED : UNLOCKED;
+    }
     for (unsigned object = 1; object <= objects_of(line); object++, at += 1 + CONTENT) {
         const uint8_t *declared = object_in_line(line, object);
         at[0] = owner_partition(declared, owners, spread);

@@ -13,7 +13,8 @@ size_t linked_line(uint8_t *to, int wide);
 // Puts a number of some entry of the line beyond its range, or to its end, in a copy of the line.
 void spoil_entry(const uint8_t *line, size_t length, uint8_t *to);
 
-// An area that is well formed for a line that meets questions 1 to 6, with partitions 1 to 3 in use at most.
+// An area that is well formed for a line that meets questions 1 to 6, with partitions 1 to 3 in use at most, and half
+// of the inactive cards locked.
 void random_state(const uint8_t *line, uint8_t *state);
 
 // A record by which a card writes or copies what entries of the line name, by which such an object leaves, or by which

@@ -39,7 +39,7 @@ def load_table(folder):
 
 
 def operate_table(folder):
-    """Whole calls at full size, the file loaded in each; the state is the dense one."""
+    """Whole calls at full size, the file loaded in each; the state is the dense one, with a card inactive for locks."""
     program = build(f"{folder}/calls", "gate", "-Iinclude", "bench/calls.c")
     print(f"{'one operation call':<36}{'answer':>8}{'whole':>10}")
     line = lines.crossing()
@@ -53,10 +53,18 @@ def operate_table(folder):
              ("a driver reads eight objects", vectors.row([3, 1, 8] + [last, 0] * 8), "0"),
              ("a device reads a descriptor", vectors.row([4, 1, 1, line.own(1)[0], 0]), "0"),
              ("a device leaves: refused", vectors.row([11, 1]), "20")]
-    for label, record, stated in cases:
-        whole, answer = one_call(folder, program, *write_case(folder, line, record), "operate")
-        expect(label, stated, answer)
-        print(f"{label:<36}{answer:>8}{whole:>10}")
+    # The last device is inactive from here on, and then locked too.
+    card = line.devices
+    aside = [("create a partition, a card inactive", vectors.row([5, 3]), "0"),
+             ("lock a card", vectors.row([14, card]), "0")]
+    locked = [("unlock a card", vectors.row([15, card]), "0"),
+              ("a locked card comes in: refused", vectors.row([8, card, 1]), "23")]
+    for asleep, locks, some in ((set(), set(), cases), ({(2, card)}, set(), aside), ({(2, card)}, {card}, locked)):
+        line.asleep, line.locked = asleep, locks
+        for label, record, stated in some:
+            whole, answer = one_call(folder, program, *write_case(folder, line, record), "operate")
+            expect(label, stated, answer)
+            print(f"{label:<36}{answer:>8}{whole:>10}")
 
 
 def reference_cases(size):

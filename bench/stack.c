@@ -56,8 +56,8 @@ static size_t painted_depth(enum call call, int paint) {
     pthread_t thread;
     memcpy(state, area, area_len);
     if (call == FIRST_BAD) {
-        // No partition has this number.
-        state[area_len - RECORD_BYTES] = 255;
+        // No partition has this number. The last record stands before the lock bytes.
+        state[area_len - SORTER_GATE_LOCK_BYTES - RECORD_BYTES] = 255;
     }
     memset(stack, paint, sizeof stack);
     wanted = call;

@@ -33,7 +33,7 @@ WRAP = "-Wl," + ",".join(f"--wrap=gate_{name}" for name in ("load_check", "fresh
 CALLS = {"load check": MOST, "fresh state": MOST, "operation": MOST, "rewriting": MOST_REWRITE, "state length": MOST,
          "first bad record": MOST}
 OPERATION = list(CALLS).index("operation")
-CODES = range(1, 14)
+CODES = range(1, 16)
 SIZES = (lines.FULL, lines.WIDE)
 
 # Faults by their names in tests/faulty.c, and how what is said of them begins.
@@ -88,7 +88,9 @@ def records(line):
             ((16, 0, 13), 9, 1, 1, last),
             ((0, 16, 0), 10, 1),
             ((20, 16, 0), 11, 1),
-            ((0, 16, 13), 12, 1, 1, last)):
+            ((0, 16, 13), 12, 1, 1, last),
+            ((16, 0, 16), 14, 1),
+            ((16, 23, 16), 15, 1)):
         yield vectors.row(numbers), answers
 
 
@@ -102,11 +104,15 @@ def states(size):
 
 
 def cases(size):
-    """A line in a state, a record, and its answer; then a card with a ring comes in, which 21 searches, and at last
-    come green zones, in which 22 is put and 20 asks more."""
+    """A line in a state, a record, and its answer; then a locked card, which is to come in, to be locked again and to
+    be unlocked; then a card with a ring comes in, which 21 searches, and at last come green zones, in which 22 is put
+    and 20 asks more."""
     for place, line in enumerate(states(size)):
         for record, answers in records(line):
             yield line, record, answers[place]
+    locked = full.without_device(locked=True, **size)
+    for answer, *numbers in ((23, 8, locked.devices, 1), (23, 14, locked.devices), (0, 15, locked.devices)):
+        yield locked, vectors.row(numbers), answer
     yield full.rings(**size), vectors.row([8, 1, 1]), 0
     ring = full.ring_links(40, **size)
     yield ring, vectors.row([8, ring.owner, 1]), 21

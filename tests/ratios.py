@@ -40,14 +40,18 @@ SLOWER = 1.1
 WIDE_LOAD, WIDE_SEARCH = "longest file: load check", "wide: search, dense"
 QUESTION_9, WIDE_QUESTION_9 = "full: question 9, dense", "wide: question 9, dense"
 GREEN_LEAVING = "full: eight objects leave, dense, in a green zone more"
+# How much more locking or unlocking a card takes than creating a partition in the same state.
+LOCKS = {f"{name}: {label}, more than creating a partition": (size, label) for name, size in lines.SIZES
+         for label in (beside.LOCKING, beside.UNLOCKING)}
 # The instructions that the library may take, whatever the plain gate takes: for rewriting a line of full size, for a
 # card that comes in there, for a driver's write in a green zone, for what leaving one takes more than leaving another
-# zone, for question 9 on one and on a line of 192 objects, and for a load, a search and a whole write on a line of 192
-# objects.
+# zone, for what a lock takes more than the creating of a partition, for question 9 on a line of full size and on one of
+# 192 objects, and for a load, a search and a whole write on a line of 192 objects.
 MOST_REWRITE = 65000
 MOST_ENTERING = 95000
 MOST_GREEN_WRITE = 38000
 MOST_GREEN_LEAVING = 8000
+MOST_LOCK = 400
 MOST_QUESTION_9 = 4500
 MOST_WIDE_QUESTION_9 = 2 * MOST_QUESTION_9
 MOST_WIDE_LOAD = 50000
@@ -55,7 +59,8 @@ MOST_WIDE_SEARCH = 110000
 MOST_WIDE_WRITE = 175000
 BOUNDS = {REWRITE: MOST_REWRITE, ENTERING: MOST_ENTERING, GREEN_WRITE: MOST_GREEN_WRITE,
           GREEN_LEAVING: MOST_GREEN_LEAVING, QUESTION_9: MOST_QUESTION_9, WIDE_QUESTION_9: MOST_WIDE_QUESTION_9,
-          WIDE_LOAD: MOST_WIDE_LOAD, WIDE_SEARCH: MOST_WIDE_SEARCH, WIDE_WRITE: MOST_WIDE_WRITE}
+          WIDE_LOAD: MOST_WIDE_LOAD, WIDE_SEARCH: MOST_WIDE_SEARCH, WIDE_WRITE: MOST_WIDE_WRITE,
+          **dict.fromkeys(LOCKS, MOST_LOCK)}
 # Every call of a row is the same, so that few are enough.
 TIMES = 10
 
@@ -73,7 +78,8 @@ def measured():
 
 def bounded():
     """The library's instructions of the rows that have a bound alone: question 9 on dense lines, a load of the longest
-    file, in which all entries name objects by two bytes, a dense search, and what a green zone asks of what leaves."""
+    file, in which all entries name objects by two bytes, a dense search, what a green zone asks of what leaves, and
+    locks."""
     with tempfile.TemporaryDirectory() as folder:
         made = search.program(folder)
         count, answer = one_call(folder, made, *write_files(folder, full.longest(), b"", b""), "load", times=TIMES)
@@ -81,7 +87,8 @@ def bounded():
         label, line, stated = next(case for case in lines.searches() if case[0] == lines.DENSE_WIDE)
         return {WIDE_LOAD: count, WIDE_SEARCH: search.counted(folder, made, label, line, stated, times=TIMES)[1],
                 QUESTION_9: question_9(folder, lines.FULL), WIDE_QUESTION_9: question_9(folder, lines.WIDE),
-                GREEN_LEAVING: leaving_green(folder, made)}
+                GREEN_LEAVING: leaving_green(folder, made),
+                **{row: locking(folder, made, *case) for row, case in LOCKS.items()}}
 
 
 def question_9(folder, size):
@@ -98,6 +105,16 @@ def leaving_green(folder, made):
         expect(GREEN_LEAVING, "0", answer)
         counts.append(count)
     return counts[1] - counts[0]
+
+
+def locking(folder, made, size, label):
+    """What the case takes more than the creating of a partition, of the calls that the table `beside` has of locks."""
+    counts = {}
+    for named, call, line, record, stated in beside.lock_cases(size):
+        if named in (label, beside.CREATING):
+            counts[named], answer = one_call(folder, made, *write_case(folder, line, record), call, times=TIMES)
+            expect(named, stated, answer)
+    return counts[label] - counts[beside.CREATING]
 
 
 def kept():
