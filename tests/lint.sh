@@ -139,7 +139,7 @@ sys.exit(faults > 0 or not sys.argv[1:])
 # The largest number of objects and the small room stand once in the model and once in its code. Whatever else named one
 # of them, the number after it or a length that follows from it would stay behind when they change. (Examples are free.)
 lint_limits() {
-    local stated found numbers='96|97|192|193|1[_,]?728|3[_,]?360|0x(60|61|[cC]0|[cC]1)'
+    local stated found numbers='96|97|192|193|1[_,]?7(28|44)|3[_,]?3(60|76)|0x(60|61|[cC]0|[cC]1)'
     stated="crates/model/specs/Config.antt:mostObjects = 192
 crates/model/specs/Config.antt:smallRoom = 96
 crates/model/src/lib.rt:pub const MOST_OBJECTS: u8 = 192;
