@@ -80,7 +80,8 @@ def others(line_l):
     for name, change, record, answer in (
             ("a partition is created", {}, [5, 2], 0), ("a green zone is created", {}, [13, 2], 0),
             ("a partition is destroyed", {2: PLAIN}, [6, 2], 0), ("a partition is not empty", {}, [6, 1], 15),
-            ("a driver comes in", {}, [7, 2, 1], 0), ("a driver leaves", {}, [10, 1], 0),
+            ("driver 2 and not device 2 comes in", locked(line_l, 2), [7, 2, 1], 0),
+            ("a driver leaves", {}, [10, 1], 0),
             ("a driver writes", {}, [1, 1, 1, 6, 1] + [7] * 16, 0), ("a driver reads", {}, [3, 1, 1, 6, 0], 0),
             ("an object comes in", {}, [9, 1, 1, 5], 0), ("an object leaves", objects_in(1, 5), [12, 1, 1, 5], 0),
             ("another device leaves", inside(2, 1, 3, 4), [LEAVE, 2], 0)):
