@@ -36,8 +36,8 @@ pub const RECORD_BYTES: usize = 1 + CONTENT_BYTES;
 const RECORDS_FROM: usize = STATUS_BYTES + MAX_DRIVERS + MAX_DEVICES;
 pub const LOCK_BYTES: usize = MAX_DEVICES;
 /// Its two lengths: of small configurations and of wide ones.
-pub const STATE_BYTES: usize = area_bytes(SMALL_ROOM);
-pub const STATE_BYTES_WIDE: usize = area_bytes(MAX_OBJECTS);
+pub const STATE_BYTES: usize = RECORDS_FROM + SMALL_ROOM * RECORD_BYTES + LOCK_BYTES;
+pub const STATE_BYTES_WIDE: usize = RECORDS_FROM + MAX_OBJECTS * RECORD_BYTES + LOCK_BYTES;
 /// The least length of an answer area.
 pub const ANSWER_BYTES: usize = MAX_COUNT * CONTENT_BYTES;
 

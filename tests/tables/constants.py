@@ -24,7 +24,7 @@ def worked_out(text, value):
         if isinstance(node, ast.BinOp) and type(node.op) in SIGNS:
             return SIGNS[type(node.op)](walk(node.left), walk(node.right))
         raise Fault(f"cannot be worked out: {text}")
-    return walk(ast.parse(re.sub(r" as \w+", "", text), mode="eval").body)
+    return walk(ast.parse(" ".join(re.sub(r" as \w+", "", text).split()), mode="eval").body)
 
 
 def of_source(path, name):
