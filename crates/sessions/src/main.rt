@@ -8,7 +8,7 @@ use libc::STDOUT_FILENO;
 use report::MOST_TEXT;
 use report::report_whole;
 
-const MOST_INPUT: usize = 163840;
+const MOST_INPUT: usize = 196608;
 
 const HEAD_BYTES: usize = 4;
 
