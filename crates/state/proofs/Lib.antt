@@ -2,8 +2,8 @@ pub mod Splicing
 pub mod Runs
 pub mod Places
 pub mod Forms
-pub mod Locking
 pub mod Words
+pub mod Locking
 pub mod Records
 pub mod Idle
 pub mod Turns

@@ -1,5 +1,5 @@
 -- Question 9, the locks of devices: one law for each way out and each turn of the tests.
-use Prim.Native.Nat.{ℕ, zero, suc, _+_, _≤_, _<_}
+use Prim.Native.Nat.{ℕ, _+_, _-_, _≤_, _<_}
 use mathlib.Core.Path.{_≡_, refl, sym, ap, _∙_}
 use mathlib.Core.List.{List, []}
 use mathlib.Core.Bool.{Bool, true, false, not, _&&_, _||_}
@@ -12,12 +12,13 @@ use Rattle.model.specs.Config.{mostDevices}
 use Rattle.model.specs.State.{locksFrom, lockPlace, State, deviceIn, lockOf, rightLock, view}
 use Rattle.model.specs.declared.Counts.{Counts}
 use Rattle.model.specs.declared.Config.{Config}
-use Rattle.model.proofs.Lists.{every-intro}
+use Rattle.model.proofs.Lists.{and-l, and-r, every-intro}
 use Rattle.model.proofs.StateBytes.{lock-byte}
-use Rattle.state.specs.Bytes.{AtMost, Highest}
+use Rattle.state.specs.Bytes.{wordAt}
 use Rattle.state.specs.Change.{lent}
 use Rattle.state.specs.Formed.{locksRight}
 use Rattle.state.proofs.Forms.{every-on, every-off, and-false}
+use Rattle.state.proofs.Words.{words-zero}
 
 -- one lock
 module _ (counts : Counts) (b : State) (c v : ℕ) (e : v ≡ lockOf b c) where
@@ -66,13 +67,18 @@ module _ (config : Config) (b : State) where
       let q : i ≡ mostDevices = omega arith in
       sym (ap (λ (k : ℕ). every k (λ c. rightLock config b c)) (sym q) ∙ e)
 
--- where the highest is 0 there is none
-pub locks-zero : (room : ℕ) (counts : Counts) (s : List ℕ) (t : ℕ)
-    → Highest s (locksFrom room) (locksFrom room + mostDevices) t → t ≡ 0
+-- where both words are 0 there is none
+pub locks-zero : (room : ℕ) (counts : Counts) (s : List ℕ) (v w : ℕ) → v ≡ wordAt s (locksFrom room)
+    → w ≡ wordAt s (locksFrom room + 8) → (eqb v 0 && eqb w 0) ≡ true
     → true ≡ locksRight (lent counts [] [] [] []) (view room s)
-unfolding locksRight AtMost
-locks-zero room counts s t h z =
+unfolding locksRight
+locks-zero room counts s v w e f z =
     sym (every-intro mostDevices (λ c. rightLock (lent counts [] [] [] []) (view room s) c) λ c l k.
+    let a : wordAt s (locksFrom room) ≡ 0 = sym e ∙ eqb-true v 0 (and-l (eqb v 0) (eqb w 0) z) in
+    let b : wordAt s (locksFrom room + 8) ≡ 0 = sym f ∙ eqb-true w 0 (and-r (eqb v 0) (eqb w 0) z) in
     let q : getD s (lockPlace room c) 0 ≡ 0 =
-    omega (arith, h .above (lockPlace room c) (omega arith) (omega arith)) in
+    ap (λ (x : ℕ). getD s x 0) (place c l) ∙ words-zero s (locksFrom room) a b (c - 1) (omega arith) in
     sym (lock-none counts (view room s) c 0 (sym (lock-byte room s c l k ∙ q)) refl))
+  where
+    place : (c : ℕ) → 1 ≤ c → lockPlace room c ≡ locksFrom room + (c - 1)
+    place c l = omega arith

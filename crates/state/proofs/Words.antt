@@ -174,6 +174,13 @@ module _ (s : List ℕ) (at : ℕ) where
         eq-eqb x 0 (f ∙ alone-second
         (value-back (getD c 0 0) (and-r (leb (getD c 0 0) most) (isValue c (getD c 0 0)) t) .1)))
 
+-- sixteen bytes are 0 if their two words are
+pub words-zero : (s : List ℕ) (at : ℕ) → wordAt s at ≡ 0 → wordAt s (at + 8) ≡ 0 → (k : ℕ) → k < contentBytes
+    → getD s (at + k) 0 ≡ 0
+words-zero s at f g zero h =
+    ap (λ (x : ℕ). getD s x 0) (omega arith) ∙ (word-first s at (omega arith) ∙ f)
+words-zero s at f g (suc k) h = words-alone s at (omega arith) g (suc k) (omega arith) h
+
 -- the same of sixteen bytes read out by value
 module _ (c : List ℕ) (l : length c ≡ contentBytes) (w : ℕ) (e : w ≡ wordAt c 0) where
   whole : part c 0 contentBytes ≡ c

@@ -10,10 +10,13 @@ use crate::LOCKED;
 use crate::RECORD_BYTES;
 use crate::RECORDS_FROM;
 use crate::UNLOCKED;
-use crate::bytes::highest;
+use crate::bytes::word;
 use crate::look::device;
 use crate::look::lock;
 use model::Counts;
+
+// The locks are two words.
+const WORD_BYTES: usize = LOCK_BYTES / 2;
 
 // The lock of device c is right.
 fn is_lock_right(area: &[u8], room: usize, counts: Counts, c: usize) -> bool
@@ -45,13 +48,15 @@ fn each_lock_right(area: &[u8], room: usize, counts: Counts) -> bool
     true
 }
 
-// Every lock is. Where there is none, which is so nearly always, the highest byte tells it.
+// Every lock is. Where there is none, which is so nearly always, two words tell it.
 pub(crate) fn locks_formed(area: &[u8], room: usize, counts: Counts) -> bool
     requires { ⌜ length (now area) ≡ areaLength room ⌝ }
     ensures { λ r. ⌜ r ≡ locksRight (lent counts [] [] [] []) (view room (now (area .entry))) ⌝ }
 {
     let from = RECORDS_FROM + RECORD_BYTES * room;
-    if highest(area, from, from + LOCK_BYTES) == UNLOCKED {
+    let first = word(area, from);
+    let second = word(area, from + WORD_BYTES);
+    if (first == 0) & (second == 0) {
         return true;
     }
     each_lock_right(area, room, counts)

@@ -10,11 +10,14 @@ mul-from c = search needs
 add-from : tie.Need-add-from
 add-from c = search needs
 
-add-highest : tie.Need-add-highest
-add-highest c = search needs
+word-requires : tie.Need-word-requires
+word-requires c κs = search needs
 
-highest-requires : tie.Need-highest-requires
-highest-requires c κs = search needs
+add-word : tie.Need-add-word
+add-word c = search needs
+
+word-requires-2 : tie.Need-word-requires-2
+word-requires-2 c κs = search needs
 
 returns : tie.Need-returns
 returns c = search locks-zero
@@ -31,8 +34,9 @@ locks-formed-spec =
     (tie.spec
     mul-from
     add-from
-    add-highest
-    highest-requires
+    word-requires
+    add-word
+    word-requires-2
     returns
     each-lock-right-requires
     returns-2)
