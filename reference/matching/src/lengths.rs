@@ -61,11 +61,9 @@ impl Lengths {
     pub fn agree_on_all(&mut self, seed: u64, walks: &mut Walks) -> bool {
         let mut rng = Rng::part(seed, 2);
         let mut same = |lengths: &mut Lengths, call: Call| {
-            let outcome = agreed(format_args!("an area of any length, a lock byte, or a file cut anywhere"), &call);
-            outcome.is_some_and(|outcome| {
-                lengths.count(&call, outcome.number);
-                lengths.agree(&call.line) && walks.agree(&call.line, &call.state)
-            })
+            agreed(format_args!("an area of any length, a lock byte, or a file cut anywhere"), &call).is_some()
+                && lengths.agree(&call.line)
+                && walks.agree(&call.line, &call.state)
         };
         EDGES.into_iter().all(|objects| areas(&mut rng, objects).all(|call| same(self, call)))
             && LOCKABLE.into_iter().all(|(devices, objects)| {
