@@ -209,6 +209,10 @@ fn question_10_wherever_a_record_is_cut() {
         assert_eq!(desk.record(&[record, &[0]].concat()), 10);
         assert_ne!(desk.record(record), 10);
     }
+}
+
+#[test]
+fn question_10_by_codes_numbers_counts_and_forms() {
     let mut desk = desk_after_seven();
     let unreadable: [&[u8]; 14] = [
         &[0],

@@ -2,11 +2,32 @@
 //! before 22 and 21 and behind 14 and 16, and the lock bytes of wide configurations.
 
 use super::numbers::Numbering;
-use super::script::{Drill, Script, both};
+use super::script::{Drill, Script, Zone, both};
 use crate::config::{Kind, Owner};
 use crate::generate::rng::Rng;
+use crate::generate::worlds::WIDE_COUNTS;
 use crate::limits::{MAX_DEVICES, SMALL_ROOM};
 use crate::operation::{Actor, Operation};
+
+/// What a drill with locks is for.
+#[derive(Clone, Copy, Debug, PartialEq, Eq)]
+pub enum Locking {
+    Standings,
+    Drivers,
+    Rings,
+    Wide,
+}
+
+/// A drill with locks; `turn` goes through the counts of objects of wide ones.
+pub fn drill(rng: &mut Rng, way: Locking, turn: usize) -> Drill {
+    let [fewest, first_of_two_bytes, one_absent, most] = WIDE_COUNTS;
+    match way {
+        Locking::Standings => standings(rng),
+        Locking::Drivers => drivers(rng),
+        Locking::Rings => rings(rng),
+        Locking::Wide => wide(rng, [fewest, most, first_of_two_bytes, one_absent][turn % 4]),
+    }
+}
 
 fn script(rng: &mut Rng) -> Script<'_> {
     let mut script = Script::new(rng);
@@ -45,7 +66,7 @@ fn try_all(script: &mut Script, device: usize, partition: usize) {
 
 /// Three devices, of which at least one is locked while the others come and go: a lock is one device's alone, is taken
 /// off by code 15 and by nothing else, and stops neither partitions nor drivers nor external objects.
-pub fn standings(rng: &mut Rng) -> Drill {
+fn standings(rng: &mut Rng) -> Drill {
     let mut script = script(rng);
     let zone = script.zone();
     let (here, away, green) = (zone.partition, zone.partition + 1, zone.partition + 2);
@@ -76,21 +97,27 @@ pub fn standings(rng: &mut Rng) -> Drill {
     try_all(&mut script, one, here);
     lock(&mut script, two);
     script.leave_external(&zone, external);
-    script.leave(Actor::Driver(zone.driver));
-    script.leave(Actor::Device(two));
-    unlock(&mut script, three);
-    enter(&mut script, two, here);
-    enter(&mut script, three, here);
-    script.leave(Actor::Device(one));
-    try_all(&mut script, one, here);
-    try_all(&mut script, two, here);
-    script.leave(Actor::Device(three));
-    destroy(&mut script, here);
+    in_turn(&mut script, &zone, [one, two, three]);
     script.end(Numbering::Shuffled, Numbering::Shuffled)
 }
 
+/// The first device is active, the others are locked: the driver leaves, and the devices come and leave in turn.
+fn in_turn(script: &mut Script, zone: &Zone, [one, two, three]: [usize; 3]) {
+    let here = zone.partition;
+    script.leave(Actor::Driver(zone.driver));
+    script.leave(Actor::Device(two));
+    unlock(script, three);
+    enter(script, two, here);
+    enter(script, three, here);
+    script.leave(Actor::Device(one));
+    try_all(script, one, here);
+    try_all(script, two, here);
+    script.leave(Actor::Device(three));
+    destroy(script, here);
+}
+
 /// A driver of each number that a device has, which comes in while the device is locked.
-pub fn drivers(rng: &mut Rng) -> Drill {
+fn drivers(rng: &mut Rng) -> Drill {
     let mut script = script(rng);
     let zone = script.zone();
     let partition = zone.partition;
@@ -113,7 +140,7 @@ pub fn drivers(rng: &mut Rng) -> Drill {
 
 /// A device whose ring leads outside until an external object is there, locked before a green zone and another: 14, 16
 /// and 23 come before 22 and 21.
-pub fn rings(rng: &mut Rng) -> Drill {
+fn rings(rng: &mut Rng) -> Drill {
     let mut script = script(rng);
     let (zone, other) = (script.green_zone(), script.zone());
     let external = script.object(Kind::Data, Owner::External, other.partition);
@@ -142,7 +169,7 @@ pub fn rings(rng: &mut Rng) -> Drill {
 
 /// A wide configuration with as many devices as there can be. The first object that small ones have no room for comes
 /// in and leaves while devices are locked: it has the bytes that are lock bytes in a small area.
-pub fn wide(rng: &mut Rng, objects: usize) -> Drill {
+fn wide(rng: &mut Rng, objects: usize) -> Drill {
     let mut script = script(rng);
     let zone = script.zone();
     let partition = zone.partition;

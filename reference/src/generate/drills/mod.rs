@@ -18,6 +18,7 @@ use super::rng::Rng;
 use super::worlds::WIDE_COUNTS;
 use crate::limits::{MAX_OBJECTS, MAX_ONE_BYTE, MAX_VALUES};
 use ladders::{WAYS, Way};
+pub use locks::Locking;
 use numbers::Numbering;
 use rings::Leaving;
 pub use script::Drill;
@@ -56,10 +57,7 @@ pub enum Point {
     GreenUnread,
     GreenStandings,
     GreenWide,
-    LockStandings,
-    LockDrivers,
-    LockRings,
-    LockWide,
+    Locks(Locking),
 }
 
 /// All points, and how many drills of each are stored. Those stored first keep their places when others are added.
@@ -95,10 +93,10 @@ pub const POINTS: [(Point, usize); 35] = [
     (Point::GreenUnread, 2),
     (Point::GreenStandings, 5),
     (Point::GreenWide, 1),
-    (Point::LockStandings, 8),
-    (Point::LockDrivers, 3),
-    (Point::LockRings, 5),
-    (Point::LockWide, 2),
+    (Point::Locks(Locking::Standings), 8),
+    (Point::Locks(Locking::Drivers), 3),
+    (Point::Locks(Locking::Rings), 5),
+    (Point::Locks(Locking::Wide), 2),
 ];
 
 /// Where the points of devices with rings begin, behind them those of green zones, and those of locks.
@@ -143,10 +141,7 @@ fn drill(rng: &mut Rng, point: Point, turn: usize) -> Drill {
         Point::GreenUnread => colours::unread_ring(rng, !inside),
         Point::GreenStandings => colours::standings(rng),
         Point::GreenWide => greens::clauses(rng, MAX_ONE_BYTE),
-        Point::LockStandings => locks::standings(rng),
-        Point::LockDrivers => locks::drivers(rng),
-        Point::LockRings => locks::rings(rng),
-        Point::LockWide => locks::wide(rng, [fewest, most, first_of_two_bytes, one_absent][turn % 4]),
+        Point::Locks(way) => locks::drill(rng, way, turn),
     }
 }
 
