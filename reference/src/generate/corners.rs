@@ -135,8 +135,8 @@ const GREEN_OVER_L: [&[u8]; 18] = [
     &[5, 1],
 ];
 
-/// Records of code 13 that cannot be read or name no partition, the next code, which nobody knows, and the last
-/// partition.
+/// Records of code 13 that cannot be read or name no partition, the next code, which nobody knew before request N6, and
+/// the last partition.
 const BAD_GREEN: [&[u8]; 17] = [
     &[13],
     &[13, 0],
