@@ -5,6 +5,8 @@ import re
 from data import ROOT, Fault
 
 CONSTANT = re.compile(r"^(?:pub(?:\(crate\))? )?const (\w+): \w+ = ([^;]+);", re.MULTILINE)
+# A function of one number whose body is one sum.
+FUNCTION = re.compile(r"^(?:pub(?:\(crate\))? )?const fn (\w+)\((\w+): \w+\) -> \w+ {\n([^;{}]+)\n}", re.MULTILINE)
 IMPORT = re.compile(r"^use (\w+)::(\w+);", re.MULTILINE)
 DEFINE = re.compile(r"^#define (\w+) (\d+)$", re.MULTILINE)
 SIGNS = {ast.Add: lambda a, b: a + b, ast.Sub: lambda a, b: a - b, ast.Mult: lambda a, b: a * b}
@@ -14,8 +16,9 @@ def text_of(path):
     return (ROOT / path).read_text(encoding="utf-8")
 
 
-def worked_out(text, value):
-    """A sum of numbers and names; `value` gives a name's number."""
+def worked_out(text, value, called=None):
+    """A sum of numbers and names, in one line or more; `value` gives a name's number, and `called` that of a function
+    with a number as its argument."""
     def walk(node):
         if isinstance(node, ast.Constant) and isinstance(node.value, int):
             return node.value
@@ -23,8 +26,10 @@ def worked_out(text, value):
             return value(node.id)
         if isinstance(node, ast.BinOp) and type(node.op) in SIGNS:
             return SIGNS[type(node.op)](walk(node.left), walk(node.right))
+        if called and isinstance(node, ast.Call) and isinstance(node.func, ast.Name) and len(node.args) == 1:
+            return called(node.func.id, walk(node.args[0]))
         raise Fault(f"cannot be worked out: {text}")
-    return walk(ast.parse(" ".join(re.sub(r" as \w+", "", text).split()), mode="eval").body)
+    return walk(ast.parse(re.sub(r" as \w+", "", " ".join(text.split())), mode="eval").body)
 
 
 def of_source(path, name):
@@ -36,7 +41,15 @@ def of_source(path, name):
         return of_source(f"crates/{imported[name]}/src/lib.rt", name)
     if name not in made:
         raise Fault(f"{path} has no constant {name}")
-    return worked_out(made[name], lambda other: of_source(path, other))
+    functions = {function: (parameter, body) for function, parameter, body in FUNCTION.findall(text)}
+
+    def called(function, number):
+        if function not in functions:
+            raise Fault(f"{path} has no function {function} that is a sum")
+        parameter, body = functions[function]
+        return worked_out(body, lambda other: number if other == parameter else of_source(path, other), called)
+
+    return worked_out(made[name], lambda other: of_source(path, other), called)
 
 
 def of_model(path, name):

@@ -16,7 +16,7 @@ from .reach import found_chain
 
 PARTITION, EMPTY, ACTIVE, PLACE, DESCRIBED = 14, 15, 16, 17, 18
 # The questions that look at a state, in the order in which they are put.
-ON_STATE = (PARTITION, EMPTY, ACTIVE, PLACE, DESCRIBED, w.OUTSIDE, w.IN_REACH, w.LOCKED, w.GREEN_RULE,
+ON_STATE = (PARTITION, EMPTY, ACTIVE, w.LOCKED, PLACE, DESCRIBED, w.OUTSIDE, w.IN_REACH, w.GREEN_RULE,
             w.ENTERS_OUTSIDE)
 PADLOCK = "padlock"
 # Of the causes, so many of the latest are followed.
