@@ -294,7 +294,7 @@ def main():
         check_c(copy)
         check_rust(copy)
         check_stored_file(copy)
-        for number in (20, 21):
+        for number in (20, 21, 23):
             check_way_out(copy, number)
         check_performance(outputs["docs/CONTROLLER.md"][STACK])
     print(f"manuals: {sum(map(len, outputs.values()))} commands of {len(MANUALS)} manuals do as they say")
