@@ -242,7 +242,7 @@ class Walk(unittest.TestCase):
         self.assertEqual(self.browser.value(GREEN_ZONES), [])
 
     def test_padlocks(self):
-        """A locked card has one, with a word that can be read; a move that 23 refuses says that it failed on the card."""
+        """A locked card has one, with a word that can be read; a move that 23 refuses has failed on the card."""
         self.open("locked", "row-13")
         self.assertEqual(self.browser.value(SHOWN)["locked"], ["card Diverter"])
         self.assertEqual(self.browser.value("document.querySelector('.card.failed .owner .name').textContent"),

@@ -127,9 +127,9 @@ class Areas(InFolder):
         for data in (older, wrapped[0] + digest(wrapped[0])):
             self.assertEqual(self.start(data), (
                 0, "Made: examples/today/bringup.csv, 7 moves: 7 accepted, 0 refused.\nstored was stored before there "
-                   f"were locks: its area has {LOCKS_FROM:,} bytes, and no card in it is locked.\nThe state after it is "
-                   f"that of stored, byte for byte ({AREA:,} bytes, with the zeros that this version has behind it).\n",
-                ""))
+                   f"were locks: its area has {LOCKS_FROM:,} bytes, and no card in it is locked.\nThe state after it "
+                   f"is that of stored, byte for byte ({AREA:,} bytes, with the zeros that this version has behind "
+                   "it).\n", ""))
             self.assertEqual((TODAY / "bringup.csv").read_bytes(), was)
         self.assertEqual(self.start(wrapped[1] + digest(wrapped[1])),
                          (2, "", f"plan: stored: {NEEDED.format(f'{LOCKS_FROM + WRAPPED:,} bytes')}\n"))

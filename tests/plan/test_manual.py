@@ -47,8 +47,8 @@ RULES = (
     ("What is activated must be in no partition", UP + "create,,2,\nactivate,Scanner,2,\n", [0] * 5 + [16]),
     ("A card that is locked does not come in until it is unlocked", "create,,1,\nlock,Scale,,\nactivate,Scale,1,\n"
      "activate,Scale,2,\ncreate,,2,\nunlock,Scale,,\nactivate,Scale,1,\n", [0, 0, 23, 14, 0, 0, 0]),
-    ("It is locked and unlocked in no partition alone; a second\n  lock on it is refused, and so is an unlock without one",
-     UP + "lock,Scanner,,\nunlock,Scanner,,\nlock,Scale,,\nlock,Scale,,\nunlock,Scale,,\nunlock,Scale,,\n",
+    ("It is locked and unlocked in no partition alone; a second\n  lock on it is refused, and so is an unlock without "
+     "one", UP + "lock,Scanner,,\nunlock,Scanner,,\nlock,Scale,,\nlock,Scale,,\nunlock,Scale,,\nunlock,Scale,,\n",
      [0] * 4 + [16, 16, 0, 23, 0, 23]),
     ("What acts or is deactivated must be in one", "deactivate,Scanner,,\nread,Scanner,,Scanner ring\n", [16, 16]),
     ("Only external objects are activated and deactivated by themselves", UP + "activate,,1,Lane table\n",

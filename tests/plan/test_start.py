@@ -21,8 +21,8 @@ from planner.visit import Item, Move
 TODAY = Path("examples/today")
 WRAPPED = 24
 # What is said of a stored file of another length than the example's line has.
-NEEDED = (f"has {{}}; the state area of this line has {AREA:,}, and {AREA + WRAPPED:,} as the example controller stores "
-          "it")
+NEEDED = (f"has {{}}; the state area of this line has {AREA:,}, and {AREA + WRAPPED:,} as the example controller "
+          "stores it")
 ANOTHER = ", as for a line of more than 96 objects"
 # A byte of the example's area, what it is set to, and what is said of it.
 FAULTS = (
