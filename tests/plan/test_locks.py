@@ -15,7 +15,7 @@ from planner.config import Config, Device, Object
 from planner.judged import judge_folder, judge_moves
 from planner.repair import Search
 from planner.repairs import PADLOCKS, changed_lines
-from planner.visit import Item, Move
+from planner.visit import Move
 from test_repair import save
 from test_start import NEEDED, TODAY, WRAPPED, comes_back
 
