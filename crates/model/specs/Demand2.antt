@@ -190,7 +190,7 @@ abbrev pub RingEnters : Config → Operation → Type 0
 RingEnters config op =
     (e : Entry) × List·Memᴰ e (entries config (hardcodedOf config (op .subject))) × WritesDescriptor config e
 
--- demand 2, question 22: with 1 to 18 a yes, exactly if it is to come into a green zone
+-- demand 2, question 22: with 1 to 18 and 23 a yes, exactly if it is to come into a green zone
 abbrev pub Entering22 : Type 0
 Entering22 =
     (file area bytes answer : List ℕ) → Upto18 file area bytes answer → Entering (operationIn bytes)
@@ -198,7 +198,7 @@ Entering22 =
     ↔ ((green (stateIn file area) (operationIn bytes .partition) ≡ true)
     × RingEnters (configIn file) (operationIn bytes))
 
--- demand 2, question 21: with 1 to 18 and 22 a yes, exactly if some entry crosses in the state that would follow,
+-- demand 2, question 21: with 1 to 18, 23 and 22 a yes, exactly if some entry crosses in the state that would follow,
 -- whichever active device's it is
 abbrev pub Refusal21 : Type 0
 Refusal21 =
