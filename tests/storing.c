@@ -10,12 +10,12 @@
 #endif
 #include EXAMPLE
 #undef main
-#include <stdarg.h>
 #include <stdlib.h>
 #include <sys/mman.h>
 #include <sys/wait.h>
 
 #include "cut_calls.h"
+#include "storing.h"
 
 enum { PART_OF_IT = 500, AROUND = STATE_AT + SUM_BYTES, OLD_BYTE = 0xEE, WIDE_OBJECTS = 97 };
 
@@ -25,25 +25,6 @@ static uint8_t old_state[SORTER_GATE_STATE_BYTES_WIDE], new_state[sizeof old_sta
 // The length of the stored file of this line.
 static size_t file_bytes(void) {
     return AROUND + state_len;
-}
-
-static void fault(const char *form, ...) {
-    va_list more;
-    va_start(more, form);
-    fprintf(stderr, "storing: ");
-    vfprintf(stderr, form, more);
-    fprintf(stderr, "\n");
-    va_end(more);
-    exit(1);
-}
-
-// A new file each time: some file systems flush one that is cut to nothing first, which takes long.
-static void put_file(const char *path, const uint8_t *bytes, size_t count) {
-    remove(path);
-    FILE *f = fopen(path, "wb");
-    if (!f || fwrite(bytes, 1, count, f) != count || fclose(f) != 0) {
-        fault("%s cannot be written", path);
-    }
 }
 
 // The bytes of the file that holds a state, as the example stores it with nothing in its way.

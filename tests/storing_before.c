@@ -10,33 +10,16 @@
 #endif
 #include EXAMPLE
 #undef main
-#include <stdarg.h>
 #include <stdlib.h>
 #include <sys/wait.h>
+
+#include "storing.h"
 
 // What areas are filled with before a call; the objects of the wide line; the bytes of a file around its area.
 enum { OLD_BYTE = 0xEE, WIDE_OBJECTS = 97, AROUND = STATE_AT + SUM_BYTES };
 
 static char name[256];
 static uint8_t area[SORTER_GATE_STATE_BYTES_WIDE], wanted[sizeof area], file[MOST_BYTES + SORTER_GATE_LOCK_BYTES];
-
-static void fault(const char *form, ...) {
-    va_list more;
-    va_start(more, form);
-    fprintf(stderr, "storing: ");
-    vfprintf(stderr, form, more);
-    fprintf(stderr, "\n");
-    va_end(more);
-    exit(1);
-}
-
-static void put_file(const char *path, const uint8_t *bytes, size_t count) {
-    remove(path);
-    FILE *f = fopen(path, "wb");
-    if (!f || fwrite(bytes, 1, count, f) != count || fclose(f) != 0) {
-        fault("%s cannot be written", path);
-    }
-}
 
 static size_t older_len(void) {
     return state_len - SORTER_GATE_LOCK_BYTES;

@@ -1,6 +1,6 @@
--- Demand 2 on whole operation calls: accepted exactly if each of the twenty-three questions is a yes; with 1 to 18 and
--- 23 a yes, refused by 19, 20 or 21 exactly where the rules of the closure give an entry for it, and by 22 where a value
--- breaks the rule of a green zone; and by 23, with those before it a yes, exactly by the device's lock.
+-- Demand 2 on whole operation calls: accepted exactly if each of the twenty-three questions is a yes; with 1 to 18
+-- and 23 a yes, refused by 19, 20 or 21 exactly where the rules of the closure give an entry for it, and by 22 where a
+-- value breaks the rule of a green zone; and by 23, with those before it a yes, exactly by the device's lock.
 use Prim.Native.Nat.{ℕ, zero, suc}
 use mathlib.Core.Path.{_≡_, refl, sym, ap, _∙_, subst}
 use mathlib.Core.Logic.{_↔_, _⊎_, inl, inr}
