@@ -51,7 +51,7 @@ HOME = TOP / "crates" / "vectors"
 LOAD, FRESH, FORMED, OPERATION, FRESH_SHORT, FRESH_LONG, WRITE = 1, 2, 3, 4, 5, 6, 7
 FRESH_IN, CREATE_IN, STATE_BYTES, WRITE_WIDE, FIRST_BAD, OPERATE_IN = 8, 9, 10, 11, 12, 13
 # What the program `vectors` takes in.
-MOST_INPUT = 196608
+MOST_INPUT = 212992
 
 
 # Document 01's file L, whose numbers have one byte each, by groups.

@@ -66,9 +66,16 @@ def between(line_l):
         for area, answer in ((on, 23), (second, without)):
             label = f"locks: {'23 before' if answer == 23 else 'another is locked:'} {name}"
             yield label, ring, {1: standing, **FRESH_L, **area}, [ENTER, 1, 1], answer
-    # No list of calls leads device 2 out: a locked device that comes in is not searched for.
-    out = {1: PLAIN, 2: PLAIN, **FRESH_L, **in_two, **held(o4=5)}
-    yield "locks: 23 before 21, another device is led out", line_l, {**out, **on}, [ENTER, 1, 2], 23
+
+
+def led_out(line_l):
+    """Device 2 is in 1 and gets to object 2, device 1's, which no list of calls leads to. Nothing is searched for where
+    a device is locked or unlocked, nor where a locked one is to come in."""
+    on, out = locked(line_l, 1), {1: PLAIN, 2: PLAIN, **FRESH_L, **inside(2, 1, 3, 4), **held(o4=5)}
+    for name, area, record, answer in (
+            ("23 before 21", on, [ENTER, 1, 2], 23), ("device 1 is locked", {}, [LOCK, 1], 0),
+            ("device 1 is unlocked", on, [UNLOCK, 1], 0)):
+        yield f"locks: {name}, another device is led out", line_l, {**out, **area}, record, answer
 
 
 def others(line_l):
@@ -79,13 +86,18 @@ def others(line_l):
         yield f"locks: a locked device {name}", line_l, {**area, **change}, record, answer
     for name, change, record, answer in (
             ("a partition is created", {}, [5, 2], 0), ("a green zone is created", {}, [13, 2], 0),
-            ("a partition is destroyed", {2: PLAIN}, [6, 2], 0), ("a partition is not empty", {}, [6, 1], 15),
+            ("a partition is destroyed", {2: PLAIN, **locked(line_l, 2)}, [6, 2], 0),
+            ("a partition is not empty", {}, [6, 1], 15),
             ("driver 2 and not device 2 comes in", locked(line_l, 2), [7, 2, 1], 0),
             ("a driver leaves", {}, [10, 1], 0),
             ("a driver writes", {}, [1, 1, 1, 6, 1] + [7] * 16, 0), ("a driver reads", {}, [3, 1, 1, 6, 0], 0),
             ("an object comes in", {}, [9, 1, 1, 5], 0), ("an object leaves", objects_in(1, 5), [12, 1, 1, 5], 0),
             ("another device leaves", inside(2, 1, 3, 4), [LEAVE, 2], 0)):
         yield f"locks: {name} while device 1 is locked", line_l, {**area, **change}, record, answer
+    # Driver 1 is active: it is not device 1, and stays where it is.
+    without = {**area, LOCKS_FROM: 0}
+    yield "locks: device 1 is locked while driver 1 is active", line_l, without, [LOCK, 1], 0
+    yield "locks: device 1 is unlocked while driver 1 is active", line_l, area, [UNLOCK, 1], 0
 
 
 def in_rooms(line, name):
@@ -138,7 +150,7 @@ def lengths(line_l):
 
 def calls(line_l):
     """Label, file, the area's length, its bytes by their places, the record, answer."""
-    for group in (example, between, others, named):
+    for group in (example, between, led_out, others, named):
         for label, line, area, record, stated in group(line_l):
             yield label, row(line), AREA, area, row(record), stated
     for line, name in ((FULL, "16 devices"), (WIDE_FULL, "16 devices and 97 objects")):
@@ -196,8 +208,12 @@ def broken(line_l):
             ("16 devices, the last in 1", FULL, last, inside(last, 1, last))):
         for label, change, answer in rules(line, active):
             yield f"{name}: {label}", line, {1: PLAIN, **area, **change}, answer
-    for place in (LOCKS_FROM, AREA - 1):
-        yield f"no device: lock byte {place - LOCKS_FROM + 1}", data(0), {place: LOCKED}, BROKEN
+    yield from in_between(line_l)
+    # Each by itself, for they are looked at eight at a time, and then one after the other.
+    for c in ALL:
+        yield f"no device: lock byte {c}", data(0), locked(data(0), c), BROKEN
+    for byte in (2, 255):
+        yield f"no device: lock byte 1 is {byte}", data(0), {LOCKS_FROM: byte}, BROKEN
     for name, area, answer in (
             ("the last is locked", locked(WIDE_FULL, last), WELL),
             ("the last lock byte is 2", {WIDE_AREA - 1: 2}, BROKEN),
@@ -205,6 +221,19 @@ def broken(line_l):
             ("the last is locked and active", {**inside(last, 1, last), **locked(WIDE_FULL, last)}, BROKEN)):
         yield f"16 devices and 97 objects: {name}", WIDE_FULL, {1: PLAIN, **area}, answer
     yield "97 objects, no device: the last lock byte", data(SMALL_ROOM + 1), {WIDE_AREA - 1: LOCKED}, BROKEN
+
+
+def in_between(line_l):
+    """Devices that are neither the first nor the last, and zones other than a plain partition 1."""
+    odd, even = ALL[::2], ALL[1::2]
+    active = {place: byte for c in odd for place, byte in inside(c, 1, c).items()}
+    yield "16 devices: the odd ones in 1, the even ones locked", FULL, {1: PLAIN, **active, **locked(FULL, *even)}, WELL
+    middle = MOST_DEVICES // 2
+    for c in (middle, middle + 1):
+        yield f"16 devices: {c} is locked and active", FULL, {1: PLAIN, **inside(c, 1, c), **locked(FULL, c)}, BROKEN
+    for name, p, standing in (("in 2", 2, PLAIN), ("in a green zone", 1, GREEN), ("in 63", 63, PLAIN)):
+        area = {p: standing, **FRESH_L, **inside(1, p, 1, 2), **locked(line_l, 1)}
+        yield f"L: device 1 is locked and {name}", line_l, area, BROKEN
 
 
 def first_bad(line_l):
