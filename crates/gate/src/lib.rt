@@ -81,8 +81,8 @@ pub extern "C" fn gate_fresh(line: &[u8], state: &mut [u8]) -> u32
     0
 }
 
-// An operation (document 01: operation record) on the state area lent: questions 1 to 20, then 22 and 21. At 0 it is
-// carried out, and a read's contents stand in the answer area. A refusal leaves both areas as they were.
+// An operation (document 01: operation record) on the state area lent: questions 1 to 16, 23, 17 to 20, then 22 and 21.
+// At 0 it is carried out, and a read's contents stand in the answer area. A refusal leaves both areas as they were.
 #[no_mangle]
 pub extern "C" fn gate_operate(line: &[u8], state: &mut [u8], rec: &[u8], answer: &mut [u8]) -> u32
     ensures { λ r.
