@@ -37,12 +37,12 @@ use Rattle.model.specs.declared.Operation.{Operation}
 use Rattle.model.proofs.Lists.{and-l, and-r, or-true, both-true}
 use Rattle.model.proofs.GreenRefusals.{not-false}
 use Rattle.model.proofs.Formed.{formed-of}
+use Rattle.model.proofs.Rings.{asked-past}
 use Rattle.model.proofs.Demand2.{ask-true}
 
 -- a question with another number does not answer 23
 not-asked : (n : ℕ) (t : Bool) (rest : ℕ) → (n ≡ 23 → ⊥) → (rest ≡ 23 → ⊥) → ask n t rest ≡ 23 → ⊥
-not-asked n true rest h k e = k e
-not-asked n false rest h k e = h e
+not-asked n t rest h k e = k (asked-past n 23 t rest h e .1)
 
 first-asked : (t : Bool) (rest : ℕ) → (rest ≡ 23 → ⊥) → (ask 23 t rest ≡ 23) ↔ (t ≡ false)
 first-asked true rest k = ((λ h. absurd (k h)), λ h. absurd (true≢false h))

@@ -1,11 +1,11 @@
 -- Document 02, N6: an older area becomes a new one by zeros at its end.
 use Prim.Native.Nat.{ℕ, zero, suc, _+_, _*_, _≤_}
 use mathlib.Core.Path.{_≡_, refl, sym, ap, _∙_}
-use mathlib.Core.List.{List, [], _∷_, _++_}
+use mathlib.Core.List.{List, [], _∷_, _++_, append-assoc}
 use mathlib.Core.Bool.{Bool, true, false, _&&_, _||_}
 use native.Mathlib.Omega.{arith}
 use lib.ListN.{length, drop, length-drop}
-use lib.Seq.{drop-at}
+use lib.Seq.{drop-at, drop-append-le}
 use lib.Dec.{leb, eqb}
 use Rattle.model.specs.Base.{nth, all, every}
 use Rattle.model.specs.Config.{mostDrivers, mostDevices}
@@ -34,14 +34,9 @@ use Rattle.model.specs.State.{
 }
 use Rattle.model.specs.Older.{noLocks, olderLength, olderView, olderLayout, olderFormed}
 use Rattle.model.specs.declared.Config.{Config}
-use Rattle.model.proofs.StateLaws.{append-append, window-all}
+use Rattle.model.proofs.StateLaws.{window-all}
 
 -- what is read within s is read so with more behind it
-drop-more : (k : ℕ) (s t : List ℕ) → k ≤ length s → drop k (s ++ t) ≡ drop k s ++ t
-drop-more zero s t h = refl
-drop-more (suc k) [] t h = absurd (omega arith)
-drop-more (suc k) (x ∷ s) t h = drop-more k s t (omega arith)
-
 window-more : (k : ℕ) (s t : List ℕ) → k ≤ length s → window k (s ++ t) ≡ window k s
 window-more zero s t h = refl
 window-more (suc k) [] t h = absurd (omega arith)
@@ -51,14 +46,14 @@ partitions-more : (k : ℕ) (s t : List ℕ) → recordBytes * k ≤ length s �
 partitions-more zero s t h = refl
 partitions-more (suc k) [] t h = absurd (omega arith)
 partitions-more (suc k) (x ∷ s) t h =
-    ap (λ (l : List ℕ). x ∷ l) (ap (partitionsIn k) (drop-more contentBytes s t (omega arith))
+    ap (λ (l : List ℕ). x ∷ l) (ap (partitionsIn k) (drop-append-le contentBytes s t (omega arith))
     ∙ partitions-more k (drop contentBytes s) t (omega (arith, length-drop contentBytes s)))
 
 contents-more : (k : ℕ) (s t : List ℕ) → recordBytes * k ≤ length s → contentsIn k (s ++ t) ≡ contentsIn k s
 contents-more zero s t h = refl
 contents-more (suc k) [] t h = absurd (omega arith)
 contents-more (suc k) (x ∷ s) t h =
-    go (ap (contentsIn k) (drop-more contentBytes s t (omega arith))
+    go (ap (contentsIn k) (drop-append-le contentBytes s t (omega arith))
     ∙ contents-more k (drop contentBytes s) t (omega (arith, length-drop contentBytes s)))
   where
     go : contentsIn k (drop contentBytes (s ++ t)) ≡ contentsIn k (drop contentBytes s)
@@ -71,13 +66,13 @@ unfolding view olderView
 older-view room s h =
     λ i. record {
       status = window-more partitionCount s noLocks (omega arith) i;
-      driver = (ap (window mostDrivers) (drop-more driversFrom s noLocks (omega arith))
+      driver = (ap (window mostDrivers) (drop-append-le driversFrom s noLocks (omega arith))
           ∙ window-more mostDrivers (drop driversFrom s) noLocks (omega (arith, length-drop driversFrom s))) i;
-      device = (ap (window mostDevices) (drop-more devicesFrom s noLocks (omega arith))
+      device = (ap (window mostDevices) (drop-append-le devicesFrom s noLocks (omega arith))
           ∙ window-more mostDevices (drop devicesFrom s) noLocks (omega (arith, length-drop devicesFrom s))) i;
-      object = (ap (partitionsIn room) (drop-more recordsFrom s noLocks (omega arith))
+      object = (ap (partitionsIn room) (drop-append-le recordsFrom s noLocks (omega arith))
           ∙ partitions-more room (drop recordsFrom s) noLocks (omega (arith, length-drop recordsFrom s))) i;
-      content = (ap (contentsIn room) (drop-more recordsFrom s noLocks (omega arith))
+      content = (ap (contentsIn room) (drop-append-le recordsFrom s noLocks (omega arith))
           ∙ contents-more room (drop recordsFrom s) noLocks (omega (arith, length-drop recordsFrom s))) i;
       lock = (ap (window mostDevices) (drop-at s noLocks (locksFrom room) h) ∙ window-all noLocks mostDevices refl) i;
     }
@@ -108,9 +103,9 @@ unfolding layout olderLayout
 older-layout b e =
     let r : List ℕ = objectRecords (b .object) (b .content) in
     ap (λ (l : List ℕ). b .status ++ (b .driver ++ (b .device ++ (r ++ l)))) e
-    ∙ (ap (λ (l : List ℕ). b .status ++ (b .driver ++ l)) (sym (append-append (b .device) r noLocks))
-    ∙ (ap (λ (l : List ℕ). b .status ++ l) (sym (append-append (b .driver) (b .device ++ r) noLocks))
-    ∙ sym (append-append (b .status) (b .driver ++ (b .device ++ r)) noLocks)))
+    ∙ (ap (λ (l : List ℕ). b .status ++ (b .driver ++ l)) (sym (append-assoc (b .device) r noLocks))
+    ∙ (ap (λ (l : List ℕ). b .status ++ l) (sym (append-assoc (b .driver) (b .device ++ r) noLocks))
+    ∙ sym (append-assoc (b .status) (b .driver ++ (b .device ++ r)) noLocks)))
 
 -- all three, of an older area
 pub older-area : (room : ℕ) (config : Config) (s : List ℕ) → length s ≡ olderLength room

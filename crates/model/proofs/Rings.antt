@@ -57,7 +57,7 @@ use Rattle.model.proofs.Demand2.{ask-last}
 use Rattle.model.proofs.Reached.{reached-state, reached-verdict}
 
 -- a question of another number than the answer was a yes, and the answer is that of the questions after it
-asked-past : (n m : ℕ) (t : Bool) (rest : ℕ) → (n ≡ m → ⊥) → ask n t rest ≡ m → (t ≡ true) × (rest ≡ m)
+pub asked-past : (n m : ℕ) (t : Bool) (rest : ℕ) → (n ≡ m → ⊥) → ask n t rest ≡ m → (t ≡ true) × (rest ≡ m)
 asked-past n m true rest apart h = (refl, h)
 asked-past n m false rest apart h = absurd (apart h)
 

@@ -17,7 +17,7 @@ use Rattle.model.proofs.StateBytes.{lock-byte}
 use Rattle.state.specs.Bytes.{wordAt}
 use Rattle.state.specs.Change.{lent}
 use Rattle.state.specs.Formed.{locksRight}
-use Rattle.state.proofs.Forms.{every-on, every-off, and-false}
+use Rattle.state.proofs.Forms.{every-on, every-off, and-false, and-true}
 use Rattle.state.proofs.Words.{words-zero}
 
 -- one lock
@@ -37,10 +37,6 @@ module _ (counts : Counts) (b : State) (c v : ℕ) (e : v ≡ lockOf b c) where
         → (eqb v 1 && eqb p 0) ≡ rightLock counted b c
     unfolding lent
     lock-present p h q = rw (← e, ← q, ne-eqb v 0 some, le-leb c (counts .devices) h, and-true (eqb v 1))
-      where
-        and-true : (t : Bool) → (t && true) ≡ t
-        and-true true = refl
-        and-true false = refl
 
 -- all of them, one after the other
 module _ (config : Config) (b : State) where

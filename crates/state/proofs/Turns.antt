@@ -2,7 +2,7 @@
 use Prim.Native.Nat.{ℕ, zero, suc, _+_, _*_, _≤_, _<_}
 use mathlib.Core.Path.{_≡_, refl, sym, ap, _∙_}
 use mathlib.Core.Logic.{_⊎_, inl, inr}
-use mathlib.Core.List.{List, [], _∷_, _++_, append-nil}
+use mathlib.Core.List.{List, [], _∷_, _++_, append-nil, append-assoc}
 use mathlib.Core.Bool.{Bool, true, false, _&&_, cond}
 use native.Mathlib.Numerals.{add-one}
 use native.Mathlib.Omega.{arith}
@@ -34,7 +34,7 @@ use Rattle.model.specs.State.{
 use Rattle.model.specs.Older.{noLocks}
 use Rattle.model.specs.declared.Config.{Config}
 use Rattle.model.proofs.Lists.{all-put, length-put, partly, partly-get, partly-more, partly-all}
-use Rattle.model.proofs.StateLaws.{Sixteen, Shape, append-append, view-layout}
+use Rattle.model.proofs.StateLaws.{Sixteen, Shape, view-layout}
 use Rattle.model.proofs.StateBytes.{layout-view}
 use Rattle.state.specs.Bytes.{Lesser}
 use Rattle.state.specs.Change.{withDriver, withDevice, withObject, withContent, objectsLent}
@@ -201,7 +201,7 @@ module _ (config : Config) (room : ℕ) where
       zeros-area =
           sym (replicate-append-replicate (locksFrom room) mostDevices 0)
           ∙ (ap (λ (l : List ℕ). l ++ noLocks) (sym (replicate-append-replicate recordsFrom (recordBytes * room) 0))
-          ∙ append-append (replicate recordsFrom 0) records noLocks)
+          ∙ append-assoc (replicate recordsFrom 0) records noLocks)
 
       zeros-locks : window mostDevices (drop (locksFrom room) (replicate recordsFrom 0 ++ (records ++ noLocks)))
           ≡ noLocks
