@@ -17,7 +17,7 @@
 #include "cut_calls.h"
 #include "storing.h"
 
-enum { PART_OF_IT = 500, AROUND = STATE_AT + SUM_BYTES, OLD_BYTE = 0xEE, WIDE_OBJECTS = 97 };
+enum { PART_OF_IT = 500, AROUND = STATE_AT + SUM_BYTES, OLD_BYTE = 0xEE };
 
 static char name[256], fresh_name[sizeof name + 4];
 static uint8_t old_state[SORTER_GATE_STATE_BYTES_WIDE], new_state[sizeof old_state], area[sizeof old_state];
@@ -321,18 +321,6 @@ static int run_parts(const char *wanted) {
         }
     }
     return run;
-}
-
-// A line file of one object more than the shorter area has room for, all external data.
-static const char *wide_line(const char *folder) {
-    static char path[sizeof name];
-    static uint8_t wide[5 + 3 * WIDE_OBJECTS] = {1, 0, 0, WIDE_OBJECTS, 0};
-    for (size_t at = 5; at < sizeof wide; at += 3) {
-        wide[at] = 3;
-    }
-    snprintf(path, sizeof path, "%s/wide.bin", folder);
-    put_file(path, wide, sizeof wide);
-    return path;
 }
 
 int main(int argc, char **argv) {

@@ -15,8 +15,8 @@
 
 #include "storing.h"
 
-// What areas are filled with before a call; the objects of the wide line; the bytes of a file around its area.
-enum { OLD_BYTE = 0xEE, WIDE_OBJECTS = 97, AROUND = STATE_AT + SUM_BYTES };
+// What areas are filled with before a call; the bytes of a file around its area.
+enum { OLD_BYTE = 0xEE, AROUND = STATE_AT + SUM_BYTES };
 
 static char name[256];
 static uint8_t area[SORTER_GATE_STATE_BYTES_WIDE], wanted[sizeof area], file[MOST_BYTES + SORTER_GATE_LOCK_BYTES];
@@ -137,18 +137,6 @@ static void try_stored(void) {
     }
     wanted[3] = 1;
     must_restore(WHOLE, "what a start made of an area of before");
-}
-
-// A line file of one object more than the shorter area has room for, all external data.
-static const char *wide_line(const char *folder) {
-    static char path[sizeof name];
-    static uint8_t wide[5 + 3 * WIDE_OBJECTS] = {1, 0, 0, WIDE_OBJECTS, 0};
-    for (size_t at = 5; at < sizeof wide; at += 3) {
-        wide[at] = 3;
-    }
-    snprintf(path, sizeof path, "%s/wide.bin", folder);
-    put_file(path, wide, sizeof wide);
-    return path;
 }
 
 int main(int argc, char **argv) {
