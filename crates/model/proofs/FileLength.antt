@@ -16,6 +16,9 @@ use Rattle.model.specs.Config.{
   mostObjects,
   mostValues,
   mostEntries,
+  mostEdition,
+  serialEdition,
+  mostSerial,
   mostKind,
   mostClass,
   mostMode,
@@ -24,6 +27,8 @@ use Rattle.model.specs.ConfigFile.{
   Row,
   done,
   field,
+  absent,
+  since,
   ownerLeast,
   ownerMost,
   storedMost,
@@ -36,6 +41,7 @@ use Rattle.model.specs.ConfigFile.{
 use Rattle.model.specs.ConfigWrite.{
   mostCountsBytes,
   mostObjectBytes,
+  mostDeviceBytes,
   mostEntryBytes,
   mostValueBytes,
   mostWritten,
@@ -119,10 +125,24 @@ fits-field low high most m rest l fits (v ∷ vs) h =
       fits v vs (search (and-l, and-r)),
     )
 
+-- a number that is there from an edition on
+fits-since : (edition high m : ℕ) (counts : Counts) (rest : Row) → Fits rest m
+    → Fits (since edition counts (λ more. field 0 high λ v. more) rest) (bytesTo high + m)
+unfolding rowBytes inRow
+fits-since edition high m counts rest fits = go (leb edition (counts .edition))
+  where
+    absent-fits : (vs : List ℕ) → inRow (absent rest) vs ≡ true → length (rowBytes (absent rest) vs) ≤ bytesTo high + m
+    absent-fits [] h = omega arith
+    absent-fits (v ∷ vs) h = omega (arith, fits vs (and-r (eqb v 0) (inRow rest vs) h))
+
+    go : (t : Bool) → Fits (cond t (field 0 high λ v. rest) (absent rest)) (bytesTo high + m)
+    go true = fits-field 0 high high m (λ v. rest) (omega arith) (λ v. fits)
+    go false = absent-fits
+
 -- each row of a file
 counts-fit : Fits countsRow mostCountsBytes
 counts-fit =
-    fits-field 1 1 1 _ _ (omega arith) λ e.
+    fits-field 1 mostEdition mostEdition _ _ (omega arith) λ e.
     fits-field 0 mostDrivers mostDrivers _ _ (omega arith) λ d.
     fits-field 0 mostDevices mostDevices _ _ (omega arith) λ v.
     fits-field 0 mostObjects mostObjects _ _ (omega arith) λ n.
@@ -156,8 +176,10 @@ module _ (counts : Counts) (few : FewCounts counts) where
       fits-field (ownerLeast class) (ownerMost counts class) (mostDrivers + mostDevices) _ _ (owner-within class)
       λ owner. fits-done
 
-  device-fits : Fits (deviceRow counts) (bytesTo mostValues)
-  device-fits = fits-field 0 (counts .values) mostValues _ _ (few .values) λ w. fits-done
+  device-fits : Fits (deviceRow counts) mostDeviceBytes
+  device-fits =
+      fits-field 0 (counts .values) mostValues _ _ (few .values) λ w.
+      fits-since serialEdition mostSerial 0 counts done fits-done
 
   entry-fits : (kinds : List ℕ) → Fits (entryRow counts kinds) mostEntryBytes
   entry-fits kinds =
@@ -242,7 +264,7 @@ file-most config h =
       counts-fit (countsNumbers n) (r .counts),
       table-most (objectRows n (config .objects)) mostObjectBytes (n .objects)
           (λ k l m. one-most _ _ (object-fits n f) (every-at (n .objects) _ (r .objects) k l m)),
-      table-most (deviceRows n (config .devices)) (bytesTo mostValues) (n .devices)
+      table-most (deviceRows n (config .devices)) mostDeviceBytes (n .devices)
           (λ k l m. one-most _ _ (device-fits n f) (every-at (n .devices) _ (r .devices) k l m)),
       table-most (valueRows n (config .objects .kind) (config .values)) mostValueBytes (n .values)
           (value-most config r),

@@ -29,7 +29,7 @@ use Rattle.model.specs.ConfigFile.{
   judged,
   afterCounts,
   afterGroup,
-  groupsFrom,
+  groupsTo,
   loadTo,
   load,
 }
@@ -140,11 +140,7 @@ counts-kept s bytes =
     (λ vs next. Counted (countsOf vs) next) 0
     λ vs next r w.
     let five = list-5 vs (row-width countsRow 5 (λ e d v n k. refl) vs r) in
-    let r₁ = ap (inRow countsRow) (sym five) ∙ r in
-    let edition = row-head 1 1 _ (getD vs 0 0) _ r₁ in
-    let one : getD vs 0 0 ≡ 1 = omega (arith, edition .0, edition .1) in
-    let all-five : vs ≡ countsNumbers (countsOf vs) =
-    five ∙ ap (λ (x : ℕ). x ∷ getD vs 1 0 ∷ getD vs 2 0 ∷ getD vs 3 0 ∷ getD vs 4 0 ∷ []) one in
+    let all-five : vs ≡ countsNumbers (countsOf vs) = five in
     (ap (inRow countsRow) (sym all-five) ∙ r, w ∙ ap (λ (x : List ℕ). rowBytes countsRow x ++ drop next s) all-five)
 
 pub ranges : (config : Config) → inRow countsRow (countsNumbers (config .counts)) ≡ true
@@ -174,7 +170,7 @@ pub every-right : (n : ℕ) (p : ℕ → Bool) → ((k : ℕ) → 0 < k → k �
 every-right n p h = every-intro n p (λ i low high. h i low (omega arith))
 
 load-kept : (s : List ℕ) → Bytes s → Kept s (load s)
-unfolding loadTo groupsFrom
+unfolding loadTo groupsTo
 load-kept s bytes =
     counts-hold (Kept s) (refused-kept s) (Counting s) (countsAt s) _ (counts-kept s bytes) λ counts a hc.
     let few = few-counts counts (hc .0) in

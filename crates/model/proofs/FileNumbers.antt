@@ -6,8 +6,8 @@ use mathlib.Core.Bool.{Bool, true, false, cond, _&&_}
 use lib.ListN.{length}
 use lib.Dec.{ltb, leb}
 use borrow.Author.Tests.{lt-ltb, ltb-true, le-leb, leb-true}
-use Rattle.model.specs.Number.{lead, formed, formAt, headAt, numberAt}
-use Rattle.model.specs.ConfigFile.{ranged, fieldAt}
+use Rattle.model.specs.Number.{lead, formed, formTo, headTo, numberTo}
+use Rattle.model.specs.ConfigFile.{ranged, fieldAt, fieldTo}
 use Rattle.model.specs.FileQuestions.{Asked, rest, size, LastByte, RightForm, InRange}
 use Rattle.model.specs.declared.Num.the-variants.{Got, Bad}
 use Rattle.model.specs.declared.Fault.the-variants.{Cut, Form}
@@ -28,7 +28,7 @@ module _ (s : List ℕ) (a : Asked) where
   three-tests : passes s a
       ≡ (ltb (lead (rest s a)) (length (rest s a))
       && (formed (rest s a) (lead (rest s a)) && (leb (a .low) (size s a) && leb (size s a) (a .high))))
-  unfolding fieldAt ranged numberAt headAt formAt
+  unfolding fieldTo ranged numberTo headTo formTo
   three-tests = go (ltb (lead (rest s a)) (length (rest s a))) (formed (rest s a) (lead (rest s a))) _
     where
       tested : (t : Bool) (v next : ℕ) → isValue (cond t (Value v next) (No 3)) ≡ t

@@ -17,6 +17,9 @@ use Rattle.model.specs.Config.{
   mostObjects,
   mostValues,
   mostEntries,
+  mostEdition,
+  serialEdition,
+  mostSerial,
   mostKind,
   mostClass,
   mostMode,
@@ -28,25 +31,38 @@ use Rattle.model.specs.Config.{
 use Rattle.model.specs.ConfigFile.{
   ranged,
   fieldAt,
+  fieldTo,
   onField,
   Progress,
   read,
   stop,
   onReading,
   turns,
+  done,
+  field,
+  absent,
+  readRow,
   countsTo,
   countsAt,
   ownerLeast,
   ownerMost,
   object,
+  objectTo,
+  serialRow,
   device,
+  deviceTo,
   storedMost,
   entry,
+  entryTo,
   setCount,
   value,
+  valueTo,
   objectsAt,
+  objectsTo,
   devicesAt,
+  devicesTo,
   valuesAt,
+  valuesTo,
   paired,
   restrained,
   accepted,
@@ -55,7 +71,7 @@ use Rattle.model.specs.ConfigFile.{
   judged,
   afterCounts,
   afterGroup,
-  groupsFrom,
+  groupsTo,
   loadTo,
   load,
 }
@@ -65,6 +81,7 @@ use Rattle.model.specs.FileQuestions.{
   asks,
   countsAsked,
   objectAsked,
+  serialAsked,
   deviceAsked,
   entryAsked,
   turnsAsked,
@@ -127,7 +144,7 @@ module _ (s : List ℕ) where
       → (at low high : ℕ) (k : ℕ → ℕ → R) (g : ℕ → ℕ → List Asked)
       → ((v next : ℕ) → On (k v next) (pass (g v next)))
       → On (onField halt (fieldAt s at low high) k) (pass (asks s at low high g))
-  unfolding onField asks fieldAt ranged
+  unfolding onField asks fieldTo ranged
   asks-on On halt ended at low high k g h = go (numberAt s at)
     where
       test : (v next : ℕ) (t : Bool) → On (onField halt (cond t (Value v next) (No 3)) k)
@@ -182,7 +199,7 @@ module _ (s : List ℕ) where
   counts-on : FitsHead (countsAt s) (pass (countsAsked s))
   unfolding countsTo countsAsked
   counts-on =
-      asks-on FitsHead Stopped (λ q l. (refl, l)) 0 1 1 _ _ λ edition a.
+      asks-on FitsHead Stopped (λ q l. (refl, l)) 0 1 mostEdition _ _ λ edition a.
       asks-on FitsHead Stopped (λ q l. (refl, l)) a 0 mostDrivers _ _ λ d b.
       asks-on FitsHead Stopped (λ q l. (refl, l)) b 0 mostDevices _ _ λ v c.
       asks-on FitsHead Stopped (λ q l. (refl, l)) c 0 mostObjects _ _ λ n e.
@@ -198,20 +215,34 @@ module _ (s : List ℕ) where
 
   module _ (counts : Counts) where
     object-on : (o at : ℕ) (t : Objects) → FitsTable (object s counts o at t) (pass (objectAsked s counts o at t))
-    unfolding object objectAsked read
+    unfolding objectTo objectAsked read
     object-on o at t =
         field-on t at 1 mostKind _ _ λ kind a.
         field-on t a 0 mostClass _ _ λ class b.
         field-on t b (ownerLeast class) (ownerMost counts class) _ (λ owner next. []) λ owner next.
         refl
 
+    serial-on : (t : Devices) (at : ℕ) (k : List ℕ → ℕ → Progress Devices)
+        → ((vs : List ℕ) (next : ℕ) → FitsTable (k vs next) true)
+        → FitsTable (readRow s at (serialRow counts) (stop t) k) (pass (serialAsked s counts at))
+    unfolding serialAsked
+    serial-on t at k h = go (leb serialEdition (counts .edition))
+      where
+        go : (b : Bool)
+            → FitsTable (readRow s at (cond b (field 0 mostSerial λ serial. done) (absent done)) (stop t) k)
+            (pass (cond b (asks s at 0 mostSerial λ serial next. []) []))
+        go true = field-on t at 0 mostSerial _ (λ serial next. []) λ serial next. h (serial ∷ []) next
+        go false = h (0 ∷ []) at
+
     device-on : (v at : ℕ) (t : Devices) → FitsTable (device s counts v at t) (pass (deviceAsked s counts v at t))
-    unfolding device deviceAsked read
-    device-on v at t = field-on t at 0 (counts .values) _ (λ w next. []) λ w next. refl
+    unfolding deviceTo deviceAsked read
+    device-on v at t =
+        field-on t at 0 (counts .values) _ _ λ w next.
+        serial-on t next _ λ vs end. refl
 
     entry-on : (kinds : List ℕ) (v j at : ℕ) (t : Values)
         → FitsTable (entry s counts kinds v j at t) (pass (entryAsked s counts kinds j at t))
-    unfolding entry entryAsked read
+    unfolding entryTo entryAsked read
     entry-on kinds v j at t =
         field-on t at 1 (counts .objects) _ _ λ o a.
         field-on t a 1 mostMode _ _ λ mode b.
@@ -220,7 +251,7 @@ module _ (s : List ℕ) where
 
     value-on : (kinds : List ℕ) (v at : ℕ) (t : Values)
         → FitsTable (value s counts kinds v at t) (pass (valueAsked s counts kinds v at t))
-    unfolding value valueAsked
+    unfolding valueTo valueAsked
     value-on kinds v at t =
         field-on t at 0 mostEntries _ _ λ n next.
         turns-on (entryAsked s counts kinds) (entry s counts kinds v) (entry-on kinds v) n 0 next (setCount t v n)
@@ -237,7 +268,7 @@ module _ (s : List ℕ) where
 
   -- the whole file is read exactly if every number that it is read for passes
   told-on : FitsTable (told s) (pass (asked s))
-  unfolding told asked objectsAsked objectsAt devicesAsked devicesAt valuesAsked valuesAt
+  unfolding told asked objectsAsked objectsTo devicesAsked devicesTo valuesAsked valuesTo
   told-on =
       head-on blank (countsAt s) (countsAsked s) counts-on _ (afterAsked s) λ counts a.
       group-on blank (objectsAt s counts a) (objectsAsked s counts a)
@@ -270,7 +301,7 @@ module _ (s : List ℕ) where
       go (Refused q) = refl
 
   load-told : load s ≡ finish (told s)
-  unfolding loadTo groupsFrom told read onReading
+  unfolding loadTo groupsTo told read onReading
   load-told =
       after-counts (countsAt s) _ _ λ counts a.
       after-group (objectsAt s counts a) _ _ λ objects b.

@@ -13,6 +13,8 @@ use Rattle.model.specs.Config.{
   mostDevices,
   mostObjects,
   mostValues,
+  serialEdition,
+  mostSerial,
   entryPlace,
   blankObjects,
   blankDevices,
@@ -33,18 +35,28 @@ use Rattle.model.specs.ConfigFile.{
   setObject,
   objectOf,
   object,
+  objectTo,
   setDevice,
   deviceOf,
   device,
+  deviceTo,
   storedMost,
   setEntry,
   entryOf,
   entry,
+  entryTo,
   setCount,
   value,
+  valueTo,
   objectsAt,
+  objectsTo,
   devicesAt,
+  devicesTo,
   valuesAt,
+  valuesTo,
+  done,
+  field,
+  absent,
 }
 use Rattle.model.specs.ConfigWrite.{
   rowsFrom,
@@ -100,7 +112,11 @@ module _ (counts : Counts) (few : FewCounts counts) where
   object-bounded = (omega arith, λ kind p. (omega arith, λ class q. (owner-bounded class, λ owner r. tt)))
 
   device-bounded : Bounded (deviceRow counts)
-  device-bounded = (omega (arith, few .values), λ w p. tt)
+  device-bounded = (omega (arith, few .values), λ w p. serial (leb serialEdition (counts .edition)))
+    where
+      serial : (t : Bool) → Bounded (cond t (field 0 mostSerial λ serial. done) (absent done))
+      serial true = (omega arith, λ n p. tt)
+      serial false = tt
 
   entry-bounded : (kinds : List ℕ) → Bounded (entryRow counts kinds)
   entry-bounded kinds =
@@ -127,7 +143,7 @@ abbrev pub objectStep : Objects → ℕ → Objects → Objects
 objectStep src o t = setObject t o (getD (src .kind) o 0) (getD (src .class) o 0) (getD (src .owner) o 0)
 
 abbrev pub deviceStep : Devices → ℕ → Devices → Devices
-deviceStep src c t = setDevice t c (getD (src .hardcoded) c 0)
+deviceStep src c t = setDevice t c (getD (src .hardcoded) c 0) (getD (src .serial) c 0)
 
 abbrev pub entryStep : Values → ℕ → ℕ → Values → Values
 entryStep src v j t =
@@ -143,7 +159,7 @@ module _ (s : List ℕ) (end : ℕ) (counts : Counts) (few : FewCounts counts) w
       → (at : ℕ) (l : List ℕ) → Here s end at (rowsBytes (rowsFrom (objectRows counts src) (counts .objects) 0) ++ l)
       → (next : ℕ) × (objectsAt s counts at ≡ read (steps (objectStep src) (counts .objects) 0 blankObjects) next)
       × Here s end next l
-  unfolding objectsAt object
+  unfolding objectsTo objectTo
   objects-read src ok at l h =
       turns-read s end (objectRows counts src) (objectStep src) (object s counts) (counts .objects)
       (λ i less at t l h.
@@ -156,7 +172,7 @@ module _ (s : List ℕ) (end : ℕ) (counts : Counts) (few : FewCounts counts) w
       → (at : ℕ) (l : List ℕ) → Here s end at (rowsBytes (rowsFrom (deviceRows counts src) (counts .devices) 0) ++ l)
       → (next : ℕ) × (devicesAt s counts at ≡ read (steps (deviceStep src) (counts .devices) 0 blankDevices) next)
       × Here s end next l
-  unfolding devicesAt device
+  unfolding devicesTo deviceTo
   devices-read src ok at l h =
       turns-read s end (deviceRows counts src) (deviceStep src) (device s counts) (counts .devices)
       (λ i less at t l h.
@@ -173,7 +189,7 @@ module _ (s : List ℕ) (end : ℕ) (counts : Counts) (few : FewCounts counts) w
         × (turns (entry s counts kinds v) (getD (src .count) v 0) 0 at t
         ≡ read (steps (entryStep src v) (getD (src .count) v 0) 0 t) next)
         × Here s end next l
-    unfolding entry
+    unfolding entryTo
     entries-read v ok at t l h =
         turns-read s end (entryRows counts kinds src v) (entryStep src v) (entry s counts kinds v) (getD
         (src .count) v 0)
@@ -186,7 +202,7 @@ module _ (s : List ℕ) (end : ℕ) (counts : Counts) (few : FewCounts counts) w
     value-read : (v : ℕ) → all rightRow (valueRows counts kinds src v) ≡ true
         → (at : ℕ) (t : Values) (l : List ℕ) → Here s end at (rowsBytes (valueRows counts kinds src v) ++ l)
         → (next : ℕ) × (value s counts kinds v at t ≡ read (valueStep src v t) next) × Here s end next l
-    unfolding value rowsBytes
+    unfolding valueTo rowsBytes
     value-read v ok at t l h =
         let n = getD (src .count) v 0 in
         let rows = rowsFrom (entryRows counts kinds src v) n 0 in
@@ -206,7 +222,7 @@ module _ (s : List ℕ) (end : ℕ) (counts : Counts) (few : FewCounts counts) w
         (counts .values) 0) ++ l)
         → (next : ℕ) × (valuesAt s counts kinds at ≡ read (steps (valueStep src) (counts .values) 0 blankValues) next)
         × Here s end next l
-    unfolding valuesAt
+    unfolding valuesTo
     values-read ok at l h =
         turns-read s end (valueRows counts kinds src) (valueStep src) (value s counts kinds) (counts .values)
         (λ i less at t l h.

@@ -89,6 +89,13 @@ module _ (config : Config) where
       steps-copy (λ (t : Devices). t .hardcoded) (deviceStep (config .devices)) (config .devices .hardcoded)
       (λ o. o ∷ []) (λ o t. refl) (config .counts .devices) 0 blankDevices
 
+  serials : told config .devices .serial
+      ≡ copyAt (config .devices .serial) (placesTo (config .counts .devices)) (replicate (suc mostDevices) 0)
+  unfolding setDevice copyAt
+  serials =
+      steps-copy (λ (t : Devices). t .serial) (deviceStep (config .devices)) (config .devices .serial) (λ o. o ∷ [])
+      (λ o t. refl) (config .counts .devices) 0 blankDevices
+
   entries-keep-count : (v n i : ℕ) (t : Values) → steps (entryStep (config .values) v) n i t .count ≡ t .count
   unfolding setEntry
   entries-keep-count v n i t =
@@ -187,6 +194,10 @@ module _ (config : Config) where
             at-column (config .devices .hardcoded) (config .counts .devices) (suc mostDevices) n low high
             (omega (arith, few .devices))
             ∙ ap (λ (l : List ℕ). getD l n 0) (sym hardcodeds);
+        serial = λ n low high.
+            at-column (config .devices .serial) (config .counts .devices) (suc mostDevices) n low high
+            (omega (arith, few .devices))
+            ∙ ap (λ (l : List ℕ). getD l n 0) (sym serials);
         count = λ n low high.
             at-column (config .values .count) (config .counts .values) (suc mostValues) n low high
             (omega (arith, few .values))
@@ -205,6 +216,7 @@ module _ (config : Config) where
     class = at-unnamed (config .objects .class) _ _ _ classes;
     owner = at-unnamed (config .objects .owner) _ _ _ owners;
     hardcoded = at-unnamed (config .devices .hardcoded) _ _ _ hardcodeds;
+    serial = at-unnamed (config .devices .serial) _ _ _ serials;
     count = at-unnamed (config .values .count) _ _ _ count-column;
     entries =
         subst (λ (places : List ℕ). ZeroBut (entryBytes * suc (mostEntries * suc mostValues)) places
@@ -226,11 +238,12 @@ module _ (config : Config) where
       let c = classes ∙ copied-all (config .objects .class) _ _ (t .class) in
       let o = owners ∙ copied-all (config .objects .owner) _ _ (t .owner) in
       let h = hardcodeds ∙ copied-all (config .devices .hardcoded) _ _ (t .hardcoded) in
+      let sn = serials ∙ copied-all (config .devices .serial) _ _ (t .serial) in
       let n = count-column ∙ copied-all (config .values .count) _ _ (t .count) in
       let e = entry-column ∙ copied-all (config .values .entries) _ _ (t .entries) in
       λ i. record {
         counts = config .counts;
         objects = record { kind = k i; class = c i; owner = o i };
-        devices = record { hardcoded = h i };
+        devices = record { hardcoded = h i; serial = sn i };
         values = record { count = n i; entries = e i };
       }

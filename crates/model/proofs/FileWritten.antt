@@ -17,6 +17,7 @@ use Rattle.model.specs.Config.{
   mostEntries,
   mostMode,
   hardcodedOf,
+  mostEdition,
 }
 use Rattle.model.specs.ConfigFile.{
   Progress,
@@ -41,6 +42,7 @@ use Rattle.model.specs.ConfigFile.{
   afterCounts,
   afterGroup,
   groupsFrom,
+  groupsTo,
   loadTo,
   load,
 }
@@ -83,7 +85,7 @@ use Rattle.model.proofs.FileTold.{told, told-same, told-trimmed}
 -- what question 3 of the writer tells
 pub few-counts : (counts : Counts) → inRow countsRow (countsNumbers counts) ≡ true → FewCounts counts
 few-counts counts h =
-    let e = row-head 1 1 _ 1 _ h in
+    let e = row-head 1 mostEdition _ (counts .edition) _ h in
     let d = row-head 0 mostDrivers _ (counts .drivers) _ (e .2) in
     let v = row-head 0 mostDevices _ (counts .devices) _ (d .2) in
     let n = row-head 0 mostObjects _ (counts .objects) _ (v .2) in
@@ -176,7 +178,7 @@ judged-yes s at config e p q = rw (eq-eqb at (length s) e, p, q)
 -- the configuration that a file tells is accepted, whatever else stood in memory
 pub written-told : (config : Config) → inRanges config ≡ true → paired config ≡ true → restrained config ≡ true
     → load (fileOf config) ≡ accepted (told config)
-unfolding loadTo groupsFrom fileOf afterCounts countsTo
+unfolding loadTo groupsTo fileOf afterCounts countsTo
 written-told config h p q =
     let r = ranges-asked config h in
     let s = fileOf config in

@@ -1,6 +1,8 @@
 pub mod Lists
 pub mod Columns
 pub mod NumberBytes
+pub mod OldNumbers
+pub mod OldRecords
 pub mod Rows
 pub mod Copied
 pub mod SameFile
@@ -18,7 +20,9 @@ pub mod Entries
 pub mod Turns
 pub mod Groups
 pub mod Accepted
+pub mod WiderFiles
 pub mod SmallLines
+pub mod OldFiles
 pub mod Hardcoded
 pub mod ClosureLaws
 pub mod Confinement
@@ -47,6 +51,7 @@ pub mod FormedMoves
 pub mod Reached
 pub mod Locks
 pub mod Older
+pub mod Serials
 pub mod GreenPasses
 pub mod GreenRefusals
 pub mod Rings

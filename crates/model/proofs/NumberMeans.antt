@@ -5,14 +5,14 @@ use mathlib.Core.List.{List, [], _∷_}
 use mathlib.Core.Bool.{Bool, true, false, cond}
 use lib.ListN.{length, drop}
 use lib.Dec.{ltb}
-use Rattle.model.specs.Number.{lead, formed, formAt, headAt, numberAt}
+use Rattle.model.specs.Number.{lead, formed, formTo, headTo, numberAt, numberTo}
 use Rattle.model.specs.NumberMeans.{numMeans, meantHead, meantAt}
 use Rattle.model.specs.declared.Fault.the-variants.{Cut, Form}
 use Rattle.model.specs.declared.Num.{Num}
 use Rattle.model.specs.declared.Num.the-variants.{Got, Bad}
 
 pub number-means : (s : List ℕ) (at : ℕ) → numMeans (numberAt s at) ≡ meantAt s at
-unfolding numberAt headAt formAt meantHead
+unfolding numberTo headTo formTo meantHead
 number-means s at = go (ltb (lead (drop at s)) (length (drop at s))) (formed (drop at s) (lead (drop at s))) _ _
   where
     go : (t u : Bool) (v next : ℕ) → numMeans (cond t (cond u (Got v next) (Bad Form)) (Bad Cut))

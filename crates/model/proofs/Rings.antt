@@ -20,6 +20,7 @@ use Rattle.model.specs.Operation.{
   afterCode,
   ended,
   readOperation,
+  readOperationBy,
 }
 use Rattle.model.specs.Effect.{answerBytes, apply}
 use Rattle.model.specs.Questions.{q11, q12, q13, q14, q15, q16, q17, q18, q19, q20, q21, q22, q23, ask, judge}
@@ -68,7 +69,7 @@ ended-number true parse = inl refl
 ended-number false parse = inr refl
 
 read-number : (s : List ℕ) → ((readOperation s) .0 ≡ 0) ⊎ ((readOperation s) .0 ≡ 10)
-unfolding readOperation
+unfolding readOperationBy
 read-number s =
     let parse = number s 0 (afterCode s) in
     ended-number (eqb (parse .answer) 0 && eqb (parse .at) (length s)) parse

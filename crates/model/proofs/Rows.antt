@@ -15,6 +15,7 @@ use Rattle.model.specs.Number.{mostNumber, numberAt, bytesOf}
 use Rattle.model.specs.ConfigFile.{
   ranged,
   fieldAt,
+  fieldTo,
   onField,
   Progress,
   read,
@@ -89,6 +90,12 @@ list-1 [] h = absurd (omega arith)
 list-1 (a ∷ []) h = refl
 list-1 (a ∷ b ∷ vs) h = absurd (omega arith)
 
+pub list-2 : (vs : List ℕ) → length vs ≡ 2 → vs ≡ getD vs 0 0 ∷ getD vs 1 0 ∷ []
+list-2 [] h = absurd (omega arith)
+list-2 (a ∷ []) h = absurd (omega arith)
+list-2 (a ∷ b ∷ []) h = refl
+list-2 (a ∷ b ∷ c ∷ vs) h = absurd (omega arith)
+
 pub list-3 : (vs : List ℕ) → length vs ≡ 3 → vs ≡ getD vs 0 0 ∷ getD vs 1 0 ∷ getD vs 2 0 ∷ []
 list-3 [] h = absurd (omega arith)
 list-3 (a ∷ []) h = absurd (omega arith)
@@ -129,7 +136,7 @@ module _ (s : List ℕ) (end : ℕ) where
   field-read : (at low high v : ℕ) (l : List ℕ) → low ≤ v → v ≤ high → high ≤ mostNumber → Here s end at
       (bytesOf v ++ l)
       → fieldAt s at low high ≡ Value v (at + length (bytesOf v))
-  unfolding fieldAt ranged
+  unfolding fieldTo ranged
   field-read at low high v l p q m h =
       rw (number-read s at v l (omega arith) (h .rest), le-leb low v p, le-leb v high q)
 
@@ -191,7 +198,7 @@ module _ (s : List ℕ) (bytes : Bytes s) {R : Type 0} (Q : R → Type 0) (stop 
   field-written : (at low high : ℕ) (k : ℕ → ℕ → R)
       → ((v next : ℕ) → leb low v && leb v high ≡ true → drop at s ≡ bytesOf v ++ drop next s → Q (k v next))
       → Q (onField stop (fieldAt s at low high) k)
-  unfolding fieldAt ranged onField
+  unfolding fieldTo ranged onField
   field-written at low high k h = go (numberAt s at) refl
     where
       ranged-in : (v next : ℕ) → numberAt s at ≡ Got v next → (t : Bool) → leb low v && leb v high ≡ t

@@ -220,7 +220,8 @@ module _ (config other : Config) (same : SameFile config other) where
       rows-same (deviceRows (config .counts) (config .devices)) (deviceRows (config .counts) (other .devices))
       (config .counts .devices) 0 (λ n low high.
       let h = same .hardcoded n low (omega arith) in
-      λ x. record { row = deviceRow (config .counts); numbers = h x ∷ [] } ∷ [])
+      let e = same .serial n low (omega arith) in
+      λ x. record { row = deviceRow (config .counts); numbers = h x ∷ e x ∷ [] } ∷ [])
 
   pub value-rows : (kinds : List ℕ) (v : ℕ) → 1 ≤ v → v ≤ config .counts .values
       → valueRows (config .counts) kinds (config .values) v ≡ valueRows (config .counts) kinds (other .values) v

@@ -44,7 +44,8 @@ module _ (config other : Config) (same : SameFile config other) where
   devices-asked =
       every-same (config .counts .devices) _ _ (λ c low high.
       let h = same .hardcoded c low high in
-      λ x. all rightRow (record { row = deviceRow (config .counts); numbers = h x ∷ [] } ∷ []))
+      let e = same .serial c low high in
+      λ x. all rightRow (record { row = deviceRow (config .counts); numbers = h x ∷ e x ∷ [] } ∷ []))
 
   values-asked : every (config .counts .values)
       (λ v. all rightRow (valueRows (config .counts) (config .objects .kind) (config .values) v))

@@ -3,21 +3,31 @@ use Prim.Native.Nat.{ℕ, _≤_}
 use mathlib.Core.Path.{_≡_, refl, sym, ap, _∙_, subst}
 use mathlib.Core.List.{List, [], _∷_}
 use mathlib.Core.Bool.{Bool, true, false, cond, _&&_, true≢false}
-use native.Mathlib.Nat.{le-trans}
+use native.Mathlib.Nat.{le-refl, le-trans}
 use native.Mathlib.Omega.{arith}
 use lib.Dec.{leb}
 use borrow.Author.Tests.{leb-true, le-leb}
-use Rattle.model.specs.Number.{numberAt}
-use Rattle.model.specs.Config.{mostDrivers, mostDevices, mostObjects, mostValues, smallRoom}
+use Rattle.model.specs.Number.{mostNumber, numberTo}
+use Rattle.model.specs.Config.{
+  mostDrivers,
+  mostDevices,
+  mostObjects,
+  mostValues,
+  smallRoom,
+  mostEdition,
+  Limits,
+  latest,
+  smallLimits,
+}
 use Rattle.model.specs.ConfigFile.{
   ranged,
-  fieldAt,
+  fieldTo,
   onField,
   countsOf,
   countsTo,
   refused,
   afterCounts,
-  groupsFrom,
+  groupsTo,
   loadTo,
   load,
 }
@@ -33,7 +43,8 @@ use Rattle.model.specs.declared.Head.the-variants.{Counted, Stopped}
 use Rattle.model.specs.declared.Counts.{Counts}
 use Rattle.model.specs.declared.Loaded.{Loaded}
 use Rattle.model.proofs.Lists.{and-l, and-r, both-true}
-use Rattle.model.proofs.Accepted.{HeadTold, counts-told, groups-answered, load-within}
+use Rattle.model.proofs.Accepted.{HeadTold, counts-told, groups-answered, head-latest, load-within}
+use Rattle.model.proofs.WiderFiles.{load-wider}
 use Rattle.model.proofs.Facts.{room-few}
 
 -- the objects that are announced
@@ -45,45 +56,11 @@ abbrev isCounted : Head → Bool
 isCounted (Counted n next) = true
 isCounted (Stopped q) = false
 
--- a larger limit, few ≤ most, for one file
-module _ (few most : ℕ) (wider : few ≤ most) (s : List ℕ) where
-  abbrev loadedBy : Head → Loaded
-  loadedBy h = afterCounts h (groupsFrom s)
+-- fewer objects, in a file that announces no more
+module _ (few : ℕ) (most : Limits) (s : List ℕ) where
+  abbrev fewer : Limits
+  fewer = record { objects = few; edition = most .edition; number = most .number }
 
-  -- what is accepted stays as it is
-  abbrev Grows : Head → Head → Type 0
-  Grows h h′ = (loadedBy h) .answer ≡ 0 → loadedBy h′ ≡ loadedBy h
-
-  grows-on : (f : Field) (k k′ : ℕ → ℕ → Head) → ((v a : ℕ) → Grows (k v a) (k′ v a))
-      → Grows (onField Stopped f k) (onField Stopped f k′)
-  unfolding onField
-  grows-on (Value v a) k k′ g = g v a
-  grows-on (No q) k k′ g = λ h. refl
-
-  grows-here : (num : Num) (k : ℕ → ℕ → Head)
-      → Grows (onField Stopped (ranged 0 few num) k) (onField Stopped (ranged 0 most num) k)
-  unfolding onField ranged afterCounts refused
-  grows-here (Bad f) k h = refl
-  grows-here (Got v next) k h = go (leb 0 v && leb v few) refl h
-    where
-      told : Bool → Loaded
-      told t = afterCounts (onField Stopped (cond t (Value v next) (No 3)) k) (groupsFrom s)
-
-      go : (t : Bool) → (leb 0 v && leb v few) ≡ t → (told t) .answer ≡ 0 → told (leb 0 v && leb v most) ≡ told t
-      go true e h =
-          ap told (both-true (and-l (leb 0 v) (leb v few) e)
-          (le-leb v most (le-trans (leb-true v few (and-r (leb 0 v) (leb v few) e)) wider)))
-      go false e h = absurd (omega arith)
-
-  pub load-wider : (loadTo few s) .answer ≡ 0 → loadTo most s ≡ loadTo few s
-  unfolding loadTo countsTo fieldAt
-  load-wider =
-      grows-on (fieldAt s 0 1 1) _ _ λ edition a.
-      grows-on (fieldAt s a 0 mostDrivers) _ _ λ d b.
-      grows-on (fieldAt s b 0 mostDevices) _ _ λ v c.
-      grows-here (numberAt s c) _
-
-  -- and so it is the other way, where few objects are announced
   abbrev Shrinks : Head → Head → Type 0
   Shrinks h h′ = isCounted h ≡ true → announced h ≤ few → h′ ≡ h
 
@@ -95,18 +72,18 @@ module _ (few most : ℕ) (wider : few ≤ most) (s : List ℕ) where
 
   shrinks-here : (num : Num) (k : ℕ → ℕ → Head)
       → ((v a : ℕ) → isCounted (k v a) ≡ true → announced (k v a) ≡ v)
-      → Shrinks (onField Stopped (ranged 0 most num) k) (onField Stopped (ranged 0 few num) k)
+      → Shrinks (onField Stopped (ranged 0 (most .objects) num) k) (onField Stopped (ranged 0 few num) k)
   unfolding onField ranged
   shrinks-here (Bad f) k same h m = refl
-  shrinks-here (Got v next) k same h m = go (leb 0 v && leb v most) refl h m
+  shrinks-here (Got v next) k same h m = go (leb 0 v && leb v (most .objects)) refl h m
     where
       told : Bool → Head
       told t = onField Stopped (cond t (Value v next) (No 3)) k
 
-      go : (t : Bool) → (leb 0 v && leb v most) ≡ t → isCounted (told t) ≡ true → announced (told t) ≤ few
+      go : (t : Bool) → (leb 0 v && leb v (most .objects)) ≡ t → isCounted (told t) ≡ true → announced (told t) ≤ few
           → told (leb 0 v && leb v few) ≡ told t
       go true e h m =
-          ap told (both-true (and-l (leb 0 v) (leb v most) e)
+          ap told (both-true (and-l (leb 0 v) (leb v (most .objects)) e)
           (le-leb v few (subst (λ (n : ℕ). n ≤ few) (same v next h) m)))
       go false e h m = absurd (true≢false (sym h))
 
@@ -117,50 +94,56 @@ module _ (few most : ℕ) (wider : few ≤ most) (s : List ℕ) where
   last edition d v n (Value w a) k same h = ap announced (same w a)
   last edition d v n (No q) k same h = absurd (true≢false (sym h))
 
-  counts-narrower : Shrinks (countsTo most s) (countsTo few s)
-  unfolding countsTo fieldAt
+  counts-narrower : Shrinks (countsTo most s) (countsTo fewer s)
+  unfolding countsTo fieldTo
   counts-narrower =
-      shrinks-on (fieldAt s 0 1 1) _ _ λ edition a.
-      shrinks-on (fieldAt s a 0 mostDrivers) _ _ λ d b.
-      shrinks-on (fieldAt s b 0 mostDevices) _ _ λ v c.
-      shrinks-here (numberAt s c) _ λ n e. last edition d v n (fieldAt s e 0 mostValues) _ λ w next. refl
+      shrinks-on (fieldTo (most .number) s 0 1 (most .edition)) _ _ λ edition a.
+      shrinks-on (fieldTo (most .number) s a 0 mostDrivers) _ _ λ d b.
+      shrinks-on (fieldTo (most .number) s b 0 mostDevices) _ _ λ v c.
+      shrinks-here (numberTo (most .number) s c) _ λ n e.
+      last edition d v n (fieldTo (most .number) s e 0 mostValues) _ λ w next. refl
+
+  abbrev loadedBy : Head → Loaded
+  loadedBy h = afterCounts h (groupsTo (most .number) s)
 
   -- the counts of an accepted file are those that it announces
-  counted : most ≤ mostObjects → (h : Head) → HeadTold most h → (loadedBy h) .answer ≡ 0
+  counted : most .objects ≤ mostObjects → most .edition ≤ mostEdition → (h : Head) → HeadTold most h
+      → (loadedBy h) .answer ≡ 0
       → (isCounted h ≡ true) × ((loadedBy h) .config .counts .objects ≡ announced h)
   unfolding afterCounts refused
-  counted within (Counted n next) told h = (
+  counted objects edition (Counted n next) told h = (
     refl,
-    groups-answered (λ (c : Counts). c .objects ≡ n .objects) s n next
-        (told .0, told .1, le-trans (told .2) within, told .3) refl .told h,
+    groups-answered (λ (c : Counts). c .objects ≡ n .objects) (most .number) s n next
+        (head-latest most objects edition (Counted n next) told) refl .told h,
   )
-  counted within (Stopped q) told h = absurd (let l = told .0 in omega arith)
+  counted objects edition (Stopped q) told h = absurd (let l = told .0 in omega arith)
 
-  pub load-narrower : most ≤ mostObjects → (loadTo most s) .answer ≡ 0 → (loadTo most s) .config .counts .objects ≤ few
-      → loadTo few s ≡ loadTo most s
+  pub load-narrower : most .objects ≤ mostObjects → most .edition ≤ mostEdition → (loadTo most s) .answer ≡ 0
+      → (loadTo most s) .config .counts .objects ≤ few → loadTo fewer s ≡ loadTo most s
   unfolding loadTo
-  load-narrower within h m =
-      let c = counted within (countsTo most s) (counts-told most s) h in
+  load-narrower objects edition h m =
+      let c = counted objects edition (countsTo most s) (counts-told most s) h in
       ap loadedBy (counts-narrower (c .0) (subst (λ (n : ℕ). n ≤ few) (c .1) m))
 
--- a file that was accepted before is accepted with the same configuration; a file of few objects that is accepted now
--- was accepted before
-pub small-file : (file : List ℕ) → ((loadTo smallRoom file) .answer ≡ 0 → load file ≡ loadTo smallRoom file)
-    × ((load file) .answer ≡ 0 → (load file) .config .counts .objects ≤ smallRoom → loadTo smallRoom file ≡ load file)
+-- N2: a file that was accepted before is accepted with the same configuration; a file of few objects that is accepted
+-- now was accepted before
+pub small-file : (file : List ℕ) → ((loadTo smallLimits file) .answer ≡ 0 → load file ≡ loadTo smallLimits file)
+    × ((load file) .answer ≡ 0 → (load file) .config .counts .objects ≤ smallRoom → loadTo smallLimits file ≡ load file)
 small-file file = (
-  load-wider smallRoom mostObjects (omega arith) file,
-  load-narrower smallRoom mostObjects (omega arith) file (omega arith),
+  load-wider smallLimits latest (omega arith) (le-refl mostEdition) (le-refl mostNumber) file,
+  load-narrower smallRoom latest file (le-refl mostObjects) (le-refl mostEdition),
 )
 
--- the calls are those with the room fixed
-pub small-calls : (file : List ℕ) → (loadTo smallRoom file) .answer ≡ 0 → (area bytes answer : List ℕ)
-    → (makeFresh file area ≡ freshened smallRoom (loadTo smallRoom file) area)
-    × (operate file area bytes answer ≡ operated smallRoom (loadTo smallRoom file) (readOperation bytes) area answer)
+-- N2: the calls are those with the room fixed
+pub small-calls : (file : List ℕ) → (loadTo smallLimits file) .answer ≡ 0 → (area bytes answer : List ℕ)
+    → (makeFresh file area ≡ freshened smallRoom (loadTo smallLimits file) area)
+    × (operate file area bytes answer ≡ operated smallRoom (loadTo smallLimits file) (readOperation bytes) area answer)
 unfolding makeFresh operate
 small-calls file h area bytes answer =
-    let e : load file ≡ loadTo smallRoom file = small-file file .0 h in
+    let e : load file ≡ loadTo smallLimits file = small-file file .0 h in
+    let w = load-within smallLimits (omega arith) (le-refl mostEdition) file h in
     let r : records ((load file) .config) ≡ smallRoom =
-    ap (λ (l : Loaded). records (l .config)) e ∙ room-few _ (load-within smallRoom (omega arith) file h) in (
+    ap (λ (l : Loaded). records (l .config)) e ∙ room-few _ (w .0) in (
       (λ i. freshened (r i) (e i) area),
       λ i. operated (r i) (e i) (readOperation bytes) area answer,
     )

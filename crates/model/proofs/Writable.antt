@@ -1,12 +1,12 @@
 -- Request N1: an accepted configuration is refused by none of the writer's questions.
 use Prim.Native.Nat.{ℕ, zero, suc, _≤_, _<_}
 use mathlib.Core.Path.{_≡_, refl}
-use mathlib.Core.List.{List}
+use mathlib.Core.List.{List, [], _∷_}
 use mathlib.Core.Bool.{Bool, true, false, _&&_, cond}
 use native.Mathlib.Omega.{arith}
 use lib.ListN.{getD}
 use lib.Dec.{leb, eqb}
-use borrow.Author.Tests.{leb-false, eqb-false}
+use borrow.Author.Tests.{leb-false, eqb-false, eq-eqb}
 use Rattle.model.specs.Base.{all}
 use Rattle.model.specs.Config.{
   mostDrivers,
@@ -14,13 +14,27 @@ use Rattle.model.specs.Config.{
   mostObjects,
   mostValues,
   mostEntries,
+  mostEdition,
+  serialEdition,
+  mostSerial,
   mostKind,
   mostClass,
   mostMode,
   hardcodedOf,
+  serialOf,
   Entry,
 }
-use Rattle.model.specs.ConfigFile.{ownerLeast, ownerMost, storedMost, countsRow, load}
+use Rattle.model.specs.ConfigFile.{
+  done,
+  field,
+  absent,
+  ownerLeast,
+  ownerMost,
+  serialRow,
+  storedMost,
+  countsRow,
+  load,
+}
 use Rattle.model.specs.ConfigWrite.{
   countsNumbers,
   objectRows,
@@ -45,7 +59,7 @@ use Rattle.model.proofs.FileLoaded.{ranges}
 counts-in : (config : Config) → Few config → inRow countsRow (countsNumbers (config .counts)) ≡ true
 counts-in config f =
     let n = config .counts in
-    row-intro 1 1 _ 1 _ (omega arith) (omega arith)
+    row-intro 1 mostEdition _ (n .edition) _ (f .edition-least) (f .edition-most)
     (row-intro 0 mostDrivers _ (n .drivers) _ (omega arith) (f .drivers)
     (row-intro 0 mostDevices _ (n .devices) _ (omega arith) (f .devices)
     (row-intro 0 mostObjects _ (n .objects) _ (omega arith) (f .objects)
@@ -73,11 +87,27 @@ object-in counts t o r =
     (row-intro (ownerLeast class) (ownerMost counts class) _ owner _ (w .0) (w .1) row-done)))
     refl
 
-device-in : (config : Config) → Ranges config → (c : ℕ) → 1 ≤ c → c ≤ config .counts .devices
+-- a serial, by the edition
+serial-in : (config : Config) → Few config → Ranges config → (c : ℕ) → 1 ≤ c → c ≤ config .counts .devices
+    → inRow (serialRow (config .counts)) (serialOf config c ∷ []) ≡ true
+unfolding inRow
+serial-in config f r c low high = go (leb serialEdition (config .counts .edition)) refl
+  where
+    go : (t : Bool) → leb serialEdition (config .counts .edition) ≡ t
+        → inRow (cond t (field 0 mostSerial λ serial. done) (absent done)) (serialOf config c ∷ []) ≡ true
+    go true e =
+        row-intro 0 mostSerial (λ serial. done) (serialOf config c) [] (omega arith) (r .serials c low high .0) row-done
+    go false e =
+        let older : config .counts .edition < serialEdition = leb-false serialEdition (config .counts .edition) e in
+        let z = r .serials c low high .1 (omega (arith, older, f .edition-least)) in
+        both-true (eq-eqb (serialOf config c) 0 z) refl
+
+device-in : (config : Config) → Few config → Ranges config → (c : ℕ) → 1 ≤ c → c ≤ config .counts .devices
     → all rightRow (deviceRows (config .counts) (config .devices) c) ≡ true
-device-in config r c low high =
+device-in config f r c low high =
     both-true
-    (row-intro 0 (config .counts .values) _ (hardcodedOf config c) _ (omega arith) (r .hardcoded c low high) row-done)
+    (row-intro 0 (config .counts .values) _ (hardcodedOf config c) _ (omega arith) (r .hardcoded c low high)
+    (serial-in config f r c low high))
     refl
 
 -- a stored value, by the object's kind and the mode
@@ -125,7 +155,7 @@ sound-writes config s =
     ranges config (counts-in config (s .few))
     (every-intro (n .objects) (λ o. all rightRow (objectRows n (config .objects) o))
     (λ o low high. object-in n (config .objects) o (r .objects o low high)))
-    (every-intro (n .devices) (λ c. all rightRow (deviceRows n (config .devices) c)) (device-in config r))
+    (every-intro (n .devices) (λ c. all rightRow (deviceRows n (config .devices) c)) (device-in config (s .few) r))
     (every-intro (n .values) (λ v. all rightRow (valueRows n (config .objects .kind) (config .values) v))
     (value-in config r)) in
     rw (in-ranges, s .pairs, s .wires)

@@ -5,13 +5,16 @@ use mathlib.Core.Bool.{Bool, true, false, not, cond, _&&_, _||_}
 use lib.ListN.{length, getD, set}
 use lib.Dec.{leb, eqb}
 use Rattle.model.specs.Base.{all, every}
-use Rattle.model.specs.Number.{numberAt}
+use Rattle.model.specs.Number.{mostNumber, numberTo}
 use Rattle.model.specs.Config.{
   mostDrivers,
   mostDevices,
-  mostObjects,
   mostValues,
   mostEntries,
+  serialEdition,
+  mostSerial,
+  Limits,
+  latest,
   mostKind,
   mostClass,
   mostMode,
@@ -53,8 +56,12 @@ unfoldable pub ranged : ℕ → ℕ → Num → Field
 ranged low high (Got v next) = cond (leb low v && leb v high) (Value v next) (No 3)
 ranged low high (Bad f) = No (numQuestion (Bad f))
 
-unfoldable pub fieldAt : List ℕ → ℕ → ℕ → ℕ → Field
-fieldAt s at low high = ranged low high (numberAt s at)
+-- a field where numbers are at most `most`; request N7 made that larger, so readers of files have it as a parameter
+unfoldable pub fieldTo : ℕ → List ℕ → ℕ → ℕ → ℕ → Field
+fieldTo most s at low high = ranged low high (numberTo most s at)
+
+abbrev pub fieldAt : List ℕ → ℕ → ℕ → ℕ → Field
+fieldAt = fieldTo mostNumber
 
 -- the question of a field, a reading or counts that are refused
 abbrev pub fieldQuestion : Field → ℕ
@@ -104,35 +111,45 @@ pub data Row : Type 0 where
   absent : Row → Row
 
 -- the numbers of a row, read from a place on
-abbrev pub readRow : {R : Type 0} → List ℕ → ℕ → Row → (ℕ → R) → (List ℕ → ℕ → R) → R
-readRow s at done stop k = k [] at
-readRow s at (field low high rest) stop k =
-    onField stop (fieldAt s at low high) λ v a. readRow s a (rest v) stop (λ vs next. k (v ∷ vs) next)
-readRow s at (absent rest) stop k = readRow s at rest stop (λ vs next. k (0 ∷ vs) next)
+abbrev pub readRowTo : {R : Type 0} → ℕ → List ℕ → ℕ → Row → (ℕ → R) → (List ℕ → ℕ → R) → R
+readRowTo most s at done stop k = k [] at
+readRowTo most s at (field low high rest) stop k =
+    onField stop (fieldTo most s at low high) λ v a. readRowTo most s a (rest v) stop (λ vs next. k (v ∷ vs) next)
+readRowTo most s at (absent rest) stop k = readRowTo most s at rest stop (λ vs next. k (0 ∷ vs) next)
 
--- document 01, 'Line file': edition, 1; drivers D, devices V, objects N up to `most`, values K
-abbrev pub countsRowTo : ℕ → Row
+abbrev pub readRow : {R : Type 0} → List ℕ → ℕ → Row → (ℕ → R) → (List ℕ → ℕ → R) → R
+readRow s at row stop k = readRowTo mostNumber s at row stop k
+
+-- document 01, 'Line file': edition; drivers D, devices V, objects N, values K
+abbrev pub countsRowTo : Limits → Row
 countsRowTo most =
-    field 1 1 λ edition.
+    field 1 (most .edition) λ edition.
     field 0 mostDrivers λ d.
     field 0 mostDevices λ v.
-    field 0 most λ n.
+    field 0 (most .objects) λ n.
     field 0 mostValues λ k.
     done
 
 abbrev pub countsRow : Row
-countsRow = countsRowTo mostObjects
+countsRow = countsRowTo latest
 
 abbrev pub countsOf : List ℕ → Counts
-countsOf vs = record { drivers = getD vs 1 0; devices = getD vs 2 0; objects = getD vs 3 0; values = getD vs 4 0 }
+countsOf vs =
+    record {
+      edition = getD vs 0 0;
+      drivers = getD vs 1 0;
+      devices = getD vs 2 0;
+      objects = getD vs 3 0;
+      values = getD vs 4 0;
+    }
 
-unfoldable pub countsTo : ℕ → List ℕ → Head
+unfoldable pub countsTo : Limits → List ℕ → Head
 countsTo most s =
-    readRow s 0 (countsRowTo most) Stopped λ vs next.
+    readRowTo (most .number) s 0 (countsRowTo most) Stopped λ vs next.
     Counted (countsOf vs) next
 
 abbrev pub countsAt : List ℕ → Head
-countsAt s = countsTo mostObjects s
+countsAt s = countsTo latest s
 
 -- document 01, 'Line file': an owner's number by its class: 0, 1 to D, or 1 to V
 unfoldable pub ownerLeast : ℕ → ℕ
@@ -156,23 +173,38 @@ objectRow counts =
 abbrev pub objectOf : Objects → ℕ → List ℕ → Objects
 objectOf t o vs = setObject t o (getD vs 0 0) (getD vs 1 0) (getD vs 2 0)
 
-unfoldable pub object : List ℕ → Counts → ℕ → ℕ → Objects → Progress Objects
-object s counts o at t = readRow s at (objectRow counts) (stop t) λ vs next. read (objectOf t o vs) next
+unfoldable pub objectTo : ℕ → List ℕ → Counts → ℕ → ℕ → Objects → Progress Objects
+objectTo most s counts o at t = readRowTo most s at (objectRow counts) (stop t) λ vs next. read (objectOf t o vs) next
 
-unfoldable pub setDevice : Devices → ℕ → ℕ → Devices
-setDevice t v w = record { hardcoded = set (t .hardcoded) v w }
+abbrev pub object : List ℕ → Counts → ℕ → ℕ → Objects → Progress Objects
+object = objectTo mostNumber
 
--- document 01, 'Line file': device v has the value number 0 to K of its hardcoded descriptor
+unfoldable pub setDevice : Devices → ℕ → ℕ → ℕ → Devices
+setDevice t v w serial = record { hardcoded = set (t .hardcoded) v w; serial = set (t .serial) v serial }
+
+-- request N7: a number that is there from an edition on
+abbrev pub since : ℕ → Counts → (Row → Row) → Row → Row
+since edition counts f rest = cond (leb edition (counts .edition)) (f rest) (absent rest)
+
+-- request N7: from edition 2 on, a device's serial
+abbrev pub serialRow : Counts → Row
+serialRow counts = since serialEdition counts (λ rest. field 0 mostSerial λ serial. rest) done
+
+-- document 01, 'Line file', and request N7: device v has the value number 0 to K of its hardcoded descriptor, then its
+-- serial
 abbrev pub deviceRow : Counts → Row
 deviceRow counts =
     field 0 (counts .values) λ w.
-    done
+    serialRow counts
 
 abbrev pub deviceOf : Devices → ℕ → List ℕ → Devices
-deviceOf t v vs = setDevice t v (getD vs 0 0)
+deviceOf t v vs = setDevice t v (getD vs 0 0) (getD vs 1 0)
 
-unfoldable pub device : List ℕ → Counts → ℕ → ℕ → Devices → Progress Devices
-device s counts v at t = readRow s at (deviceRow counts) (stop t) λ vs next. read (deviceOf t v vs) next
+unfoldable pub deviceTo : ℕ → List ℕ → Counts → ℕ → ℕ → Devices → Progress Devices
+deviceTo most s counts v at t = readRowTo most s at (deviceRow counts) (stop t) λ vs next. read (deviceOf t v vs) next
+
+abbrev pub device : List ℕ → Counts → ℕ → ℕ → Devices → Progress Devices
+device = deviceTo mostNumber
 
 -- document 01, 'Line file': a stored value must be 0 unless the object is of kind 1 and the mode is 2 or 3; `kinds` is
 -- the column of kinds
@@ -194,8 +226,12 @@ entryRow counts kinds =
 abbrev pub entryOf : ℕ → Values → ℕ → List ℕ → Values
 entryOf v t j vs = setEntry t (entryPlace v j) (getD vs 0 0) (getD vs 1 0) (getD vs 2 0)
 
-unfoldable pub entry : List ℕ → Counts → List ℕ → ℕ → ℕ → ℕ → Values → Progress Values
-entry s counts kinds v j at t = readRow s at (entryRow counts kinds) (stop t) λ vs next. read (entryOf v t j vs) next
+unfoldable pub entryTo : ℕ → List ℕ → Counts → List ℕ → ℕ → ℕ → ℕ → Values → Progress Values
+entryTo most s counts kinds v j at t =
+    readRowTo most s at (entryRow counts kinds) (stop t) λ vs next. read (entryOf v t j vs) next
+
+abbrev pub entry : List ℕ → Counts → List ℕ → ℕ → ℕ → ℕ → Values → Progress Values
+entry = entryTo mostNumber
 
 unfoldable pub setCount : Values → ℕ → ℕ → Values
 setCount t v n = record { count = set (t .count) v n; entries = t .entries }
@@ -206,20 +242,32 @@ valueRow =
     field 0 mostEntries λ n.
     done
 
-unfoldable pub value : List ℕ → Counts → List ℕ → ℕ → ℕ → Values → Progress Values
-value s counts kinds v at t =
-    readRow s at valueRow (stop t) λ vs next. turns (entry s counts kinds v) (getD vs 0 0) 0 next (setCount t v
-    (getD vs 0 0))
+unfoldable pub valueTo : ℕ → List ℕ → Counts → List ℕ → ℕ → ℕ → Values → Progress Values
+valueTo most s counts kinds v at t =
+    readRowTo most s at valueRow (stop t) λ vs next.
+    turns (entryTo most s counts kinds v) (getD vs 0 0) 0 next (setCount t v (getD vs 0 0))
+
+abbrev pub value : List ℕ → Counts → List ℕ → ℕ → ℕ → Values → Progress Values
+value = valueTo mostNumber
 
 -- document 01, 'Line file': objects 1 to N, devices 1 to V, values 1 to K, in order
-unfoldable pub objectsAt : List ℕ → Counts → ℕ → Progress Objects
-objectsAt s counts at = turns (object s counts) (counts .objects) 0 at blankObjects
+unfoldable pub objectsTo : ℕ → List ℕ → Counts → ℕ → Progress Objects
+objectsTo most s counts at = turns (objectTo most s counts) (counts .objects) 0 at blankObjects
 
-unfoldable pub devicesAt : List ℕ → Counts → ℕ → Progress Devices
-devicesAt s counts at = turns (device s counts) (counts .devices) 0 at blankDevices
+abbrev pub objectsAt : List ℕ → Counts → ℕ → Progress Objects
+objectsAt = objectsTo mostNumber
 
-unfoldable pub valuesAt : List ℕ → Counts → List ℕ → ℕ → Progress Values
-valuesAt s counts kinds at = turns (value s counts kinds) (counts .values) 0 at blankValues
+unfoldable pub devicesTo : ℕ → List ℕ → Counts → ℕ → Progress Devices
+devicesTo most s counts at = turns (deviceTo most s counts) (counts .devices) 0 at blankDevices
+
+abbrev pub devicesAt : List ℕ → Counts → ℕ → Progress Devices
+devicesAt = devicesTo mostNumber
+
+unfoldable pub valuesTo : ℕ → List ℕ → Counts → List ℕ → ℕ → Progress Values
+valuesTo most s counts kinds at = turns (valueTo most s counts kinds) (counts .values) 0 at blankValues
+
+abbrev pub valuesAt : List ℕ → Counts → List ℕ → ℕ → Progress Values
+valuesAt = valuesTo mostNumber
 
 -- how many of the objects 1 to n pass
 abbrev pub howMany : ℕ → (ℕ → Bool) → ℕ
@@ -266,16 +314,19 @@ unfoldable pub afterGroup : {T : Type 0} → Progress T → (T → ℕ → Loade
 afterGroup p k = onReading refused (p .reading) (k (p .table))
 
 -- what follows the counts
-unfoldable pub groupsFrom : List ℕ → Counts → ℕ → Loaded
-groupsFrom s counts at =
-    afterGroup (objectsAt s counts at) λ objects a.
-    afterGroup (devicesAt s counts a) λ devices b.
-    afterGroup (valuesAt s counts (objects .kind) b) λ values end.
+unfoldable pub groupsTo : ℕ → List ℕ → Counts → ℕ → Loaded
+groupsTo most s counts at =
+    afterGroup (objectsTo most s counts at) λ objects a.
+    afterGroup (devicesTo most s counts a) λ devices b.
+    afterGroup (valuesTo most s counts (objects .kind) b) λ values end.
     judged s end (record { counts = counts; objects = objects; devices = devices; values = values })
 
--- the configuration that a file of at most `most` objects tells, with answer 0; or the first question answered with no
-unfoldable pub loadTo : ℕ → List ℕ → Loaded
-loadTo most s = afterCounts (countsTo most s) (groupsFrom s)
+abbrev pub groupsFrom : List ℕ → Counts → ℕ → Loaded
+groupsFrom = groupsTo mostNumber
+
+-- the configuration that a file within the limits tells, with answer 0; or the first question answered with no
+unfoldable pub loadTo : Limits → List ℕ → Loaded
+loadTo most s = afterCounts (countsTo most s) (groupsTo (most .number) s)
 
 abbrev pub load : List ℕ → Loaded
-load s = loadTo mostObjects s
+load s = loadTo latest s

@@ -13,6 +13,8 @@ use Rattle.model.specs.Config.{
   mostObjects,
   mostValues,
   mostEntries,
+  mostEdition,
+  mostSerial,
   mostKind,
   mostClass,
   mostMode,
@@ -22,6 +24,7 @@ use Rattle.model.specs.Config.{
   classOf,
   ownerOf,
   hardcodedOf,
+  serialOf,
   entryAt,
 }
 use Rattle.model.specs.ConfigFile.{
@@ -52,13 +55,13 @@ rowsFrom g (suc n) i = g (i + 1) ++ rowsFrom g n (i + 1)
 
 -- document 01, 'Line file': the numbers of each row, as a configuration has them
 abbrev pub countsNumbers : Counts → List ℕ
-countsNumbers counts = 1 ∷ counts .drivers ∷ counts .devices ∷ counts .objects ∷ counts .values ∷ []
+countsNumbers counts = counts .edition ∷ counts .drivers ∷ counts .devices ∷ counts .objects ∷ counts .values ∷ []
 
 abbrev pub objectNumbers : Objects → ℕ → List ℕ
 objectNumbers t o = getD (t .kind) o 0 ∷ getD (t .class) o 0 ∷ getD (t .owner) o 0 ∷ []
 
 abbrev pub deviceNumbers : Devices → ℕ → List ℕ
-deviceNumbers t c = getD (t .hardcoded) c 0 ∷ []
+deviceNumbers t c = getD (t .hardcoded) c 0 ∷ getD (t .serial) c 0 ∷ []
 
 abbrev pub entryNumbers : Values → ℕ → ℕ → List ℕ
 entryNumbers t v j =
@@ -113,7 +116,8 @@ rowsBytes (r ∷ rs) = rowBytes (r .row) (r .numbers) ++ rowsBytes rs
 
 -- N1: how long a row is at most in a file: edition and counts; an object, whose owner is a driver or a device; an entry
 abbrev pub mostCountsBytes : ℕ
-mostCountsBytes = bytesTo 1 + bytesTo mostDrivers + bytesTo mostDevices + bytesTo mostObjects + bytesTo mostValues
+mostCountsBytes =
+    bytesTo mostEdition + bytesTo mostDrivers + bytesTo mostDevices + bytesTo mostObjects + bytesTo mostValues
 
 abbrev pub mostObjectBytes : ℕ
 mostObjectBytes = bytesTo mostKind + bytesTo mostClass + bytesTo (mostDrivers + mostDevices)
@@ -125,10 +129,14 @@ mostEntryBytes = bytesTo mostObjects + bytesTo mostMode + bytesTo mostValues
 abbrev pub mostValueBytes : ℕ
 mostValueBytes = bytesTo mostEntries + mostEntryBytes * mostEntries
 
--- N1: how long a file is at most: edition and counts, objects, a value number for each device, and values
+-- N1, N7: how long a device is at most in a file: its value number, and its serial
+abbrev pub mostDeviceBytes : ℕ
+mostDeviceBytes = bytesTo mostValues + bytesTo mostSerial
+
+-- N1: how long a file is at most: edition and counts, objects, devices and values
 abbrev pub mostWritten : ℕ
 mostWritten =
-    mostCountsBytes + mostObjectBytes * mostObjects + bytesTo mostValues * mostDevices + mostValueBytes * mostValues
+    mostCountsBytes + mostObjectBytes * mostObjects + mostDeviceBytes * mostDevices + mostValueBytes * mostValues
 
 -- N1: the file of a configuration
 unfoldable pub fileOf : Config → List ℕ
@@ -190,6 +198,8 @@ pub record SameFile (config other : Config) : Type 0 where
   pub class : (n : ℕ) → 1 ≤ n → n ≤ config .counts .objects → classOf config n ≡ classOf other n
   pub owner : (n : ℕ) → 1 ≤ n → n ≤ config .counts .objects → ownerOf config n ≡ ownerOf other n
   pub hardcoded : (c : ℕ) → 1 ≤ c → c ≤ config .counts .devices → hardcodedOf config c ≡ hardcodedOf other c
+  pub serial : (c : ℕ) → 1 ≤ c → c ≤ config .counts .devices
+      → serialOf config c ≡ serialOf other c
   pub count : (v : ℕ) → 1 ≤ v → v ≤ config .counts .values
       → getD (config .values .count) v 0 ≡ getD (other .values .count) v 0
   pub entry : (v j : ℕ) → 1 ≤ v → v ≤ config .counts .values → 1 ≤ j → j ≤ getD (config .values .count) v 0
@@ -219,6 +229,7 @@ pub record Trimmed (config : Config) : Type 0 where
   pub class : ZeroBut (suc mostObjects) (placesTo (config .counts .objects)) (config .objects .class)
   pub owner : ZeroBut (suc mostObjects) (placesTo (config .counts .objects)) (config .objects .owner)
   pub hardcoded : ZeroBut (suc mostDevices) (placesTo (config .counts .devices)) (config .devices .hardcoded)
+  pub serial : ZeroBut (suc mostDevices) (placesTo (config .counts .devices)) (config .devices .serial)
   pub count : ZeroBut (suc mostValues) (placesTo (config .counts .values)) (config .values .count)
   pub entries : ZeroBut (entryBytes * suc (mostEntries * suc mostValues))
       (tablePlaces (config .values .count) (config .counts .values)) (config .values .entries)

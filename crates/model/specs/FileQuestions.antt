@@ -3,8 +3,9 @@
 use Prim.Native.Nat.{ℕ, zero, suc, _+_, _≤_, _<_}
 use mathlib.Core.Path.{_≡_}
 use mathlib.Core.List.{List, [], _∷_, _++_, List·Memᴰ}
-use mathlib.Core.Bool.{true}
+use mathlib.Core.Bool.{true, cond}
 use lib.ListN.{length, drop}
+use lib.Dec.{leb}
 use Rattle.model.specs.Number.{lead, valueOf, formed}
 use Rattle.model.specs.Config.{
   mostDrivers,
@@ -12,6 +13,9 @@ use Rattle.model.specs.Config.{
   mostObjects,
   mostValues,
   mostEntries,
+  mostEdition,
+  serialEdition,
+  mostSerial,
   mostKind,
   mostClass,
   mostMode,
@@ -68,7 +72,7 @@ size s a = valueOf (rest s a) (lead (rest s a))
 abbrev pub LastByte : List ℕ → Asked → Type 0
 LastByte s a = lead (rest s a) < length (rest s a)
 
--- question 2: has it at most three bytes, shortest form, and a size of at most 65,535?
+-- question 2: has it at most three bytes, shortest form, and a size of at most the largest number?
 abbrev pub RightForm : List ℕ → Asked → Type 0
 RightForm s a = formed (rest s a) (lead (rest s a)) ≡ true
 
@@ -80,10 +84,10 @@ InRange s a = (a .low ≤ size s a) × (size s a ≤ a .high)
 unfoldable pub asks : List ℕ → ℕ → ℕ → ℕ → (ℕ → ℕ → List Asked) → List Asked
 asks s at low high k = record { at = at; low = low; high = high } ∷ onField (λ q. []) (fieldAt s at low high) k
 
--- document 01, 'Line file': edition, 1; drivers D, devices V, objects N, values K
+-- document 01, 'Line file': edition; drivers D, devices V, objects N, values K
 unfoldable pub countsAsked : List ℕ → List Asked
 countsAsked s =
-    asks s 0 1 1 λ edition a.
+    asks s 0 1 mostEdition λ edition a.
     asks s a 0 mostDrivers λ d b.
     asks s b 0 mostDevices λ v c.
     asks s c 0 mostObjects λ n e.
@@ -98,9 +102,13 @@ objectAsked s counts o at t =
     asks s b (ownerLeast class) (ownerMost counts class) λ owner next.
     []
 
--- document 01, 'Line file': a device has the value number 0 to K of its hardcoded descriptor
+-- document 01, 'Line file', and request N7: a device has the value number 0 to K of its hardcoded descriptor; and, from
+-- edition 2 on, its serial
+unfoldable pub serialAsked : List ℕ → Counts → ℕ → List Asked
+serialAsked s counts at = cond (leb serialEdition (counts .edition)) (asks s at 0 mostSerial λ serial next. []) []
+
 unfoldable pub deviceAsked : List ℕ → Counts → ℕ → ℕ → Devices → List Asked
-deviceAsked s counts v at t = asks s at 0 (counts .values) λ w next. []
+deviceAsked s counts v at t = asks s at 0 (counts .values) λ w next. serialAsked s counts next
 
 -- document 01, 'Line file': an entry has object 1 to N, mode 1 to 3, stored value
 unfoldable pub entryAsked : List ℕ → Counts → List ℕ → ℕ → ℕ → Values → List Asked

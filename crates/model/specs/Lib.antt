@@ -13,12 +13,14 @@ pub mod Trace
 pub mod Separation
 pub mod Locks
 pub mod Older
+pub mod Serials
 pub mod Green
 pub mod Office
 pub mod Rewriting
 pub mod Programs
 pub mod Examples
 pub mod LockExamples
+pub mod SerialExamples
 pub mod NumberMeans
 pub mod FileQuestions
 pub mod Demand2

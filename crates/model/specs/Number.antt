@@ -9,9 +9,13 @@ use Rattle.model.specs.declared.Fault.the-variants.{Cut, Form}
 use Rattle.model.specs.declared.Num.{Num}
 use Rattle.model.specs.declared.Num.the-variants.{Got, Bad}
 
--- the largest number, and how many bytes one has at most
+-- the largest number (request N7: what three full groups hold), and how many bytes one has at most
 abbrev pub mostNumber : ℕ
-mostNumber = 65535
+mostNumber = 2097151
+
+-- the largest number before request N7
+abbrev pub mostBefore : ℕ
+mostBefore = 65535
 
 abbrev pub mostBytes : ℕ
 mostBytes = 3
@@ -32,20 +36,32 @@ unfoldable pub shortest : List ℕ → ℕ → Bool
 shortest t n = eqb n 0 || ltb 0 (getD t n 0)
 
 -- question 2: at most three bytes, shortest form, at most the largest number
-unfoldable pub formed : List ℕ → ℕ → Bool
-formed t n = ltb n mostBytes && shortest t n && leb (valueOf t n) mostNumber
+unfoldable pub formedTo : ℕ → List ℕ → ℕ → Bool
+formedTo most t n = ltb n mostBytes && shortest t n && leb (valueOf t n) most
+
+abbrev pub formed : List ℕ → ℕ → Bool
+formed t n = formedTo mostNumber t n
 
 -- the number at the head of t, which stands at `at`, with n bytes before its last
-unfoldable pub formAt : ℕ → List ℕ → ℕ → Num
-formAt at t n = cond (formed t n) (Got (valueOf t n) (at + n + 1)) (Bad Form)
+unfoldable pub formTo : ℕ → ℕ → List ℕ → ℕ → Num
+formTo most at t n = cond (formedTo most t n) (Got (valueOf t n) (at + n + 1)) (Bad Form)
+
+abbrev pub formAt : ℕ → List ℕ → ℕ → Num
+formAt at t n = formTo mostNumber at t n
 
 -- question 1: without a last byte a number is cut, however long it is
-unfoldable pub headAt : ℕ → List ℕ → Num
-headAt at t = cond (ltb (lead t) (length t)) (formAt at t (lead t)) (Bad Cut)
+unfoldable pub headTo : ℕ → ℕ → List ℕ → Num
+headTo most at t = cond (ltb (lead t) (length t)) (formTo most at t (lead t)) (Bad Cut)
+
+abbrev pub headAt : ℕ → List ℕ → Num
+headAt at t = headTo mostNumber at t
 
 -- the number at a place of s
-unfoldable pub numberAt : List ℕ → ℕ → Num
-numberAt s at = headAt at (drop at s)
+unfoldable pub numberTo : ℕ → List ℕ → ℕ → Num
+numberTo most s at = headTo most at (drop at s)
+
+abbrev pub numberAt : List ℕ → ℕ → Num
+numberAt s at = numberTo mostNumber s at
 
 -- document 01, 'Line file': how many bytes a number up to `most` has at most
 abbrev pub bytesTo : ℕ → ℕ

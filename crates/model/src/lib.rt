@@ -19,6 +19,11 @@ pub const MOST_VALUES: u8 = 47;
 
 pub const MOST_ENTRIES: u8 = 6;
 
+// The latest edition of the file, and the one from which on a device has a serial (request N7).
+pub const MOST_EDITION: u8 = 2;
+
+pub const SERIAL_EDITION: u8 = 2;
+
 // The kinds that a rule speaks of (document 01, 'Words'): a transfer descriptor and a hardcoded one; and the largest.
 pub const TRANSFER_KIND: u8 = 1;
 
@@ -44,8 +49,10 @@ pub const BOTH_MODE: u8 = 3;
 
 pub const MOST_MODE: u8 = BOTH_MODE;
 
-// The largest number, and how many bytes one has at most.
-pub const MOST_NUMBER: usize = 65535;
+// The largest number, which is the largest serial too, and how many bytes one has at most.
+pub const MOST_SERIAL: u32 = 2097151;
+
+pub const MOST_NUMBER: usize = MOST_SERIAL as usize;
 
 pub const MOST_BYTES: usize = 3;
 
@@ -73,7 +80,7 @@ pub const GREEN_CODE: usize = 13;
 pub enum Fault {
     // No last byte.
     Cut,
-    // More than three bytes, not the shortest form, or above the largest number.
+    // More than three bytes, or not the shortest form. (What three bytes hold is never above the largest number.)
     Form,
 }
 
@@ -96,7 +103,9 @@ pub enum Reading {
     Refused(u8),
 }
 
+// The edition of the file, and how many of each there are.
 pub struct Counts {
+    pub edition: u8,
     pub drivers: u8,
     pub devices: u8,
     pub objects: u8,
@@ -116,8 +125,10 @@ pub struct Objects {
     pub owner: [u8; OBJECT_SLOTS],
 }
 
+// The value of a device's hardcoded descriptor, and its serial, 0 where none is known.
 pub struct Devices {
     pub hardcoded: [u8; DEVICE_SLOTS],
+    pub serial: [u32; DEVICE_SLOTS],
 }
 
 pub struct Values {
