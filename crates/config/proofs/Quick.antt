@@ -14,6 +14,7 @@ use Rattle.model.specs.Config.{
   mostDevices,
   mostObjects,
   mostValues,
+  mostEdition,
   mostKind,
   mostClass,
   mostMode,
@@ -29,9 +30,11 @@ use Rattle.model.specs.ConfigFile.{
   read,
   setObject,
   object,
+  objectTo,
   storedMost,
   setEntry,
   entry,
+  entryTo,
 }
 use Rattle.model.specs.declared.Field.the-variants.{Value}
 use Rattle.model.specs.declared.Head.the-variants.{Counted}
@@ -95,7 +98,7 @@ stored-few counts kinds o mode h = go (eqb (getD kinds o 0) 1 && leb 2 mode) (h 
 module _ (s : List ℕ) (counts : Counts) (o at : ℕ) (t : Objects) (k c w : ℕ) (h : at < length s - 2) where
   pub object-quick : k ≡ getD s at 0 → c ≡ getD s (at + 1) 0 → w ≡ getD s (at + 2) 0 → isObject counts k c w ≡ true
       → Within counts → read (setObject t o k c w) (at + 3) ≡ object s counts o at t
-  unfolding isObject isOwner object onField
+  unfolding isObject isOwner objectTo onField
   object-quick e f g z within =
       let a = and-four (leb 1 k) (leb k mostKind) (leb c mostClass) (isOwner counts c w) z in
       let k1 = leb-true 1 k (a .0) in
@@ -121,7 +124,7 @@ module _ (s : List ℕ) (counts : Counts) (kinds : List ℕ) (v j at : ℕ) (t :
   pub entry-quick : o ≡ getD s at 0 → mode ≡ getD s (at + 1) 0 → w ≡ getD s (at + 2) 0
       → namesObject counts o mode ≡ true → leb w (storedMost counts kinds o mode) ≡ true → Within counts
       → read (setEntry t (entryPlace v j) o mode w) (at + 3) ≡ entry s counts kinds v j at t
-  unfolding namesObject entry onField
+  unfolding namesObject entryTo onField
   entry-quick e f g z y within =
       let a = and-four (leb 1 o) (leb o (oneByteMost (counts .objects))) (leb 1 mode) (leb mode mostMode) z in
       let top = most-within (counts .objects) in
@@ -175,21 +178,23 @@ module _ (counts : Counts) (c w : ℕ) where
 -- five bytes are the edition and the counts
 pub counts-quick : (s : List ℕ) (e d v n k : ℕ) → 5 ≤ length s → e ≡ getD s 0 0 → d ≡ getD s 1 0 → v ≡ getD s 2 0
     → n ≡ getD s 3 0 → k ≡ getD s 4 0 → countsFit e d v n k ≡ true
-    → Counted (record { drivers = d; devices = v; objects = n; values = k }) 5 ≡ countsAt s
+    → Counted (record { edition = e; drivers = d; devices = v; objects = n; values = k }) 5 ≡ countsAt s
 unfolding countsFit countsTo onField
 counts-quick s e d v n k h p q r t u z =
-    let first : Bool = eqb e 1 && leb d mostDrivers && leb v mostDevices && leb n (oneByteMost mostObjects) in
+    let edition : Bool = leb 1 e && leb e mostEdition in
+    let first : Bool = edition && leb d mostDrivers && leb v mostDevices && leb n (oneByteMost mostObjects) in
     let a =
-    and-four (eqb e 1) (leb d mostDrivers) (leb v mostDevices) (leb n (oneByteMost mostObjects))
+    and-four edition (leb d mostDrivers) (leb v mostDevices) (leb n (oneByteMost mostObjects))
     (and-left first (leb k mostValues) z) in
     let top = most-within mostObjects in
-    let e1 = eqb-true e 1 (a .0) in
+    let e1 = leb-true 1 e (and-left (leb 1 e) (leb e mostEdition) (a .0)) in
+    let e2 = leb-true e mostEdition (and-right (leb 1 e) (leb e mostEdition) (a .0)) in
     let d2 = leb-true d mostDrivers (a .1) in
     let v2 = leb-true v mostDevices (a .2) in
     let n2 = leb-true n (oneByteMost mostObjects) (a .3) in
     let k2 = leb-true k mostValues (and-right first (leb k mostValues) z) in
     rw (
-      field-one s 0 1 1 e (omega arith) p (omega (arith, e1)) (omega (arith, e1)) (omega (arith, e1)),
+      field-one s 0 1 mostEdition e (omega arith) p (omega (arith, e2)) e1 e2,
       field-one s 1 0 mostDrivers d (omega arith) q (omega (arith, d2)) (omega arith) d2,
       field-one s 2 0 mostDevices v (omega arith) r (omega (arith, v2)) (omega arith) v2,
       field-one s 3 0 mostObjects n (omega arith) t (omega (arith, n2, top)) (omega arith) (omega (arith, n2, top)),

@@ -2,18 +2,27 @@
 -- Assumes nothing.
 use Prim.Native.Nat.{ℕ, suc, _+_, _-_, _<_, _≤_}
 use mathlib.Core.Path.{_≡_, refl, sym, _∙_, subst}
-use mathlib.Core.List.{List}
+use mathlib.Core.List.{List, [], _∷_}
 use mathlib.Core.Bool.{Bool, true, false, cond, false≢true, _&&_}
 use lib.ListN.{length}
 use lib.Dec.{leb, eqb}
 use borrow.Author.Tests.{le-leb, lt-leb, leb-true, eq-eqb, ne-eqb}
 use native.Mathlib.Omega.{arith}
 use Rattle.model.specs.Number.{numberAt}
-use Rattle.model.specs.Config.{mostDrivers, mostDevices, mostObjects, mostValues}
+use Rattle.model.specs.Config.{
+  mostDrivers,
+  mostDevices,
+  mostObjects,
+  mostValues,
+  mostEdition,
+  serialEdition,
+  mostSerial,
+}
 use Rattle.model.specs.ConfigFile.{
   numQuestion,
   ranged,
   fieldAt,
+  fieldTo,
   fieldQuestion,
   readingQuestion,
   headQuestion,
@@ -23,6 +32,10 @@ use Rattle.model.specs.ConfigFile.{
   stop,
   onReading,
   turns,
+  done,
+  field,
+  absent,
+  readRow,
   countsTo,
   countsAt,
   objectsAt,
@@ -37,6 +50,7 @@ use Rattle.model.specs.ConfigFile.{
   afterCounts,
   afterGroup,
   groupsFrom,
+  groupsTo,
   loadTo,
   load,
 }
@@ -52,7 +66,7 @@ use Rattle.model.specs.declared.Head.the-variants.{Counted, Stopped}
 use Rattle.model.specs.declared.Counts.{Counts}
 use Rattle.model.specs.declared.Config.{Config}
 use Rattle.model.specs.declared.Loaded.{Loaded}
-use Rattle.config.specs.Readings.{progress}
+use Rattle.config.specs.Readings.{progress, serialAt}
 use Rattle.sound.specs.Columns.{objectsOf, devicesOf, valuesOf, configOf, Within}
 use Rattle.config.specs.Rest.{firstNo, restNo}
 
@@ -63,19 +77,19 @@ and-false false = refl
 -- one field, from what the number reader answered
 module _ (s : List ℕ) (at low high : ℕ) (n : Num) (h : n ≡ numberAt s at) where
   pub field-bad : (f : Fault) (q : ℕ) → n ≡ Bad f → q ≡ numQuestion n → No q ≡ fieldAt s at low high
-  unfolding fieldAt ranged
+  unfolding fieldTo ranged
   field-bad f q e p = rw (p, ← h, e)
 
   pub field-low : (v next : ℕ) → n ≡ Got v next → v < low → No 3 ≡ fieldAt s at low high
-  unfolding fieldAt ranged
+  unfolding fieldTo ranged
   field-low v next e p = rw (← h, e, lt-leb low v p)
 
   pub field-high : (v next : ℕ) → n ≡ Got v next → high < v → No 3 ≡ fieldAt s at low high
-  unfolding fieldAt ranged
+  unfolding fieldTo ranged
   field-high v next e p = rw (← h, e, lt-leb v high p, and-false)
 
   pub field-value : (v next : ℕ) → n ≡ Got v next → low ≤ v → v ≤ high → Value v next ≡ fieldAt s at low high
-  unfolding fieldAt ranged
+  unfolding fieldTo ranged
   field-value v next e p q = rw (← h, e, le-leb low v p, le-leb v high q)
 
 -- what follows a field: it is refused, or its number goes to what follows
@@ -87,6 +101,28 @@ module _ {R : Type 0} (halt : ℕ → R) (x : Field) (k : ℕ → ℕ → R) {f 
   pub on-go : {v next : ℕ} {r : R} → f ≡ Value v next → r ≡ k v next → r ≡ onField halt x k
   unfolding onField
   on-go e p = rw (p, ← h, e)
+
+-- a serial is there in a file of an edition that has it, and then is one field
+pub serial-none : (s : List ℕ) (edition at : ℕ) → edition < serialEdition → Value 0 at ≡ serialAt s edition at
+unfolding serialAt
+serial-none s edition at h = rw (lt-leb serialEdition edition h)
+
+pub serial-some : (s : List ℕ) (edition at : ℕ) → serialEdition ≤ edition
+    → fieldAt s at 0 mostSerial ≡ serialAt s edition at
+unfolding serialAt
+serial-some s edition at h = rw (le-leb serialEdition edition h)
+
+pub serial-row : {R : Type 0} (s : List ℕ) (edition at : ℕ) (halt : ℕ → R) (k : List ℕ → ℕ → R)
+    → onField halt (serialAt s edition at) (λ n next. k (n ∷ []) next)
+    ≡ readRow s at (cond (leb serialEdition edition) (field 0 mostSerial λ serial. done) (absent done)) halt k
+unfolding serialAt onField
+serial-row {R} s edition at halt k = go (leb serialEdition edition)
+  where
+    go : (t : Bool)
+        → onField halt (cond t (fieldAt s at 0 mostSerial) (Value 0 at)) (λ n next. k (n ∷ []) next)
+        ≡ readRow s at (cond t (field 0 mostSerial λ serial. done) (absent done)) halt k
+    go true = refl
+    go false = refl
 
 -- the number of a field that is not refused lies in its range
 and-right : (a b : Bool) → a && b ≡ true → b ≡ true
@@ -107,7 +143,7 @@ ranged-most low high (Bad f) {v} {next} e = let z : _≡_ {A = ℕ} 0 1 = cc in 
 
 pub field-most : (s : List ℕ) (at low high : ℕ) {f : Field} {v next : ℕ} → f ≡ fieldAt s at low high
     → f ≡ Value v next → v ≤ high
-unfolding fieldAt
+unfolding fieldTo
 field-most s at low high h e = ranged-most low high (numberAt s at) (sym h ∙ e)
 
 -- counts that were read are within the columns
@@ -127,7 +163,7 @@ field-within s at low high k h = go (fieldAt s at low high) refl
 head-within : (s : List ℕ) → WithinHead (countsAt s)
 unfolding countsTo
 head-within s =
-    field-within s 0 1 1 _ λ edition a _.
+    field-within s 0 1 mostEdition _ λ edition a _.
     field-within s a 0 mostDrivers _ λ d b hd.
     field-within s b 0 mostDevices _ λ v c hv.
     field-within s c 0 mostObjects _ λ n e hn.
@@ -191,24 +227,24 @@ module _ (s : List ℕ) {head : Head} (e : head ≡ countsAt s) {n : Counts} {at
   module _ {p : Reading} {kind class owner : List ℕ}
       (x : progress p (objectsOf kind class owner) ≡ objectsAt s n at) where
     pub objects-stop : {i : ℕ} {l : Loaded} → p ≡ Refused i → l ≡ refused (readingQuestion p) → l ≡ load s
-    unfolding groupsFrom
+    unfolding groupsTo
     objects-stop z w = load-go s e c (group-stop _ _ x z w)
 
-    module _ {a : ℕ} (o : p ≡ At a) {q : Reading} {hardcoded : List ℕ}
-        (y : progress q (devicesOf hardcoded) ≡ devicesAt s n a) where
+    module _ {a : ℕ} (o : p ≡ At a) {q : Reading} {hardcoded serial : List ℕ}
+        (y : progress q (devicesOf hardcoded serial) ≡ devicesAt s n a) where
       pub devices-stop : {i : ℕ} {l : Loaded} → q ≡ Refused i → l ≡ refused (readingQuestion q) → l ≡ load s
-      unfolding groupsFrom
+      unfolding groupsTo
       devices-stop z w = load-go s e c (group-go _ _ x o (group-stop _ _ y z w))
 
       module _ {b : ℕ} (d : q ≡ At b) {r : Reading} {count entries : List ℕ}
           (z : progress r (valuesOf count entries) ≡ valuesAt s n kind b) where
         pub values-stop : {i : ℕ} {l : Loaded} → r ≡ Refused i → l ≡ refused (readingQuestion r) → l ≡ load s
-        unfolding groupsFrom
+        unfolding groupsTo
         values-stop v w = load-go s e c (group-go _ _ x o (group-go _ _ y d (group-stop _ _ z v w)))
 
         pub all-go : {end : ℕ} {l : Loaded} → r ≡ At end
-            → l ≡ judged s end (configOf n kind class owner hardcoded count entries) → l ≡ load s
-        unfolding groupsFrom
+            → l ≡ judged s end (configOf n kind class owner hardcoded serial count entries) → l ≡ load s
+        unfolding groupsTo
         all-go v w = load-go s e c (group-go _ _ x o (group-go _ _ y d (group-go _ _ z v w)))
 
 -- questions 4, 5 and 6, by the first that is answered with no

@@ -2,12 +2,13 @@
 -- read as the model reads it.
 use Prim.Native.Nat.{ℕ}
 use mathlib.Core.Bool.{Bool, cond, _&&_}
-use lib.Dec.{leb, ltb, eqb}
+use lib.Dec.{leb, ltb}
 use Rattle.model.specs.Config.{
   mostDrivers,
   mostDevices,
   mostObjects,
   mostValues,
+  mostEdition,
   mostKind,
   mostClass,
   mostMode,
@@ -40,5 +41,5 @@ namesObject counts o mode =
 -- an edition and counts, each of one byte, are in their ranges
 unfoldable pub countsFit : ℕ → ℕ → ℕ → ℕ → ℕ → Bool
 countsFit edition drivers devices objects values =
-    eqb edition 1 && leb drivers mostDrivers && leb devices mostDevices && leb objects (oneByteMost mostObjects)
-    && leb values mostValues
+    leb 1 edition && leb edition mostEdition && leb drivers mostDrivers && leb devices mostDevices
+    && leb objects (oneByteMost mostObjects) && leb values mostValues

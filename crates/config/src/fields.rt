@@ -11,7 +11,7 @@ use model::Num;
 use model::Reading;
 
 // Question 1 or 2, which a number answers with no.
-fn num_question(n: Num) -> u8
+pub fn num_question(n: Num) -> u8
     ensures { λ r. ⌜ r ≡ numQuestion n ⌝ }
 {
     match n {

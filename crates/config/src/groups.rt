@@ -1,21 +1,19 @@
-// The first groups of the file: counts, objects, devices. Each reader fills the columns that it is lent and answers the
-// next place, or the question that ends the reading.
+// The first groups of the file: edition and counts, objects. Each reader fills the columns that it is lent and answers
+// the next place, or the question that ends the reading.
 ghost use mathlib.Core.Path.{_≡_};
 ghost use Prim.Native.Nat.{_≤_};
 ghost use Rattle.model.specs.declared.Head.the-variants.{Stopped};
 ghost use Rattle.model.specs.declared.Reading.the-variants.{Refused};
-ghost use Rattle.model.specs.Config.{mostDevices, mostObjects};
-ghost use Rattle.model.specs.ConfigFile.{fieldQuestion, countsAt, ownerLeast, ownerMost, object, device, turns};
-ghost use Rattle.sound.specs.Columns.{objectsOf, devicesOf, Within};
+ghost use Rattle.model.specs.Config.{mostObjects};
+ghost use Rattle.model.specs.ConfigFile.{fieldQuestion, countsAt, ownerLeast, ownerMost, object, turns};
+ghost use Rattle.sound.specs.Columns.{objectsOf, Within};
 ghost use Rattle.config.specs.Readings.{progress};
 ghost use Rattle.config.specs.Quick.{isOwner, isObject, countsFit};
 use crate::fields::field_question;
 use crate::fields::one_byte_most;
-use crate::fields::quick_field;
 use crate::fields::read_field;
 use crate::fields::triples_end;
 use model::Counts;
-use model::DEVICE_SLOTS;
 use model::DRIVER_CLASS;
 use model::EXTERNAL_CLASS;
 use model::Field;
@@ -23,6 +21,7 @@ use model::Head;
 use model::MOST_CLASS;
 use model::MOST_DEVICES;
 use model::MOST_DRIVERS;
+use model::MOST_EDITION;
 use model::MOST_KIND;
 use model::MOST_OBJECTS;
 use model::MOST_VALUES;
@@ -45,8 +44,8 @@ pub(crate) fn refused(f: Field) -> Reading
 fn counts_by_fields(s: &[u8]) -> Head
     ensures { λ r. ⌜ r ≡ countsAt (now (s .entry)) ⌝ }
 {
-    let f = read_field(s, 0, 1, 1);
-    let Field::Value(_, a) = f else {
+    let f = read_field(s, 0, 1, MOST_EDITION);
+    let Field::Value(edition, a) = f else {
         return stopped(f);
     };
     let g = read_field(s, a, 0, MOST_DRIVERS);
@@ -67,6 +66,7 @@ fn counts_by_fields(s: &[u8]) -> Head
     };
     Head::Counted(
         Counts {
+            edition: edition,
             drivers: drivers,
             devices: devices,
             objects: objects,
@@ -81,7 +81,8 @@ fn counts_fit(edition: u8, drivers: u8, devices: u8, objects: u8, values: u8) ->
     ensures { λ r. ⌜ r ≡ countsFit edition drivers devices objects values ⌝ }
 {
     let most = one_byte_most(MOST_OBJECTS);
-    (edition == 1)
+    (1 <= edition)
+        & (edition <= MOST_EDITION)
         & (drivers <= MOST_DRIVERS)
         & (devices <= MOST_DEVICES)
         & (objects <= most)
@@ -101,6 +102,7 @@ pub(crate) fn read_counts(s: &[u8]) -> Head
         if counts_fit(edition, drivers, devices, objects, values) {
             return Head::Counted(
                 Counts {
+                    edition: edition,
                     drivers: drivers,
                     devices: devices,
                     objects: objects,
@@ -242,54 +244,6 @@ pub(crate) fn read_objects(
     while i < n {
         i += 1;
         let r = read_object(s, counts, i, p, kind, class, owner);
-        let Reading::At(next) = r else {
-            return r;
-        };
-        p = next;
-    }
-    Reading::At(p)
-}
-
-// Device v: the value number of its hardcoded descriptor.
-fn read_device(
-    s: &[u8],
-    counts: Counts,
-    v: u8,
-    at: usize,
-    hardcoded: &mut [u8; DEVICE_SLOTS],
-) -> Reading
-    requires { ⌜ v ≤ mostDevices ⌝ }
-    ensures { λ r.
-        ⌜ progress r (devicesOf (now (hardcoded .exit)))
-        ≡ device (now (s .entry)) counts v at (devicesOf (now (hardcoded .entry))) ⌝ }
-{
-    let f = quick_field(s, at, 0, counts.values);
-    let Field::Value(w, next) = f else {
-        return refused(f);
-    };
-    let i = v as usize;
-    hardcoded[i] = w;
-    Reading::At(next)
-}
-
-// Devices 1 to V.
-pub(crate) fn read_devices(
-    s: &[u8],
-    counts: Counts,
-    at: usize,
-    hardcoded: &mut [u8; DEVICE_SLOTS],
-) -> Reading
-    requires { ⌜ Within counts ⌝ }
-    ensures { λ r.
-        ⌜ progress r (devicesOf (now (hardcoded .exit)))
-        ≡ turns (device (now (s .entry)) counts) (counts .devices) 0 at (devicesOf (now (hardcoded .entry))) ⌝ }
-{
-    let n = counts.devices;
-    let mut i: u8 = 0;
-    let mut p = at;
-    while i < n {
-        i += 1;
-        let r = read_device(s, counts, i, p, hardcoded);
         let Reading::At(next) = r else {
             return r;
         };

@@ -1,5 +1,6 @@
 // The configuration file (document 01: line file) into the configuration, or the first refusal among questions 1 to 6.
 // Columns are local arrays, lent to the readers; the struct is made once, at the end.
+mod devices;
 mod fields;
 pub mod groups;
 pub mod values;
@@ -27,6 +28,7 @@ fn blank_config() -> Config
     ensures { λ r. ⌜ r ≡ blank ⌝ }
 {
     let n = Counts {
+        edition: 0,
         drivers: 0,
         devices: 0,
         objects: 0,
@@ -39,6 +41,7 @@ fn blank_config() -> Config
     };
     let d = Devices {
         hardcoded: [0u8; DEVICE_SLOTS],
+        serial: [0u32; DEVICE_SLOTS],
     };
     let v = Values {
         count: [0u8; VALUE_SLOTS],
@@ -78,10 +81,11 @@ fn accept(
     class: [u8; OBJECT_SLOTS],
     owner: [u8; OBJECT_SLOTS],
     hardcoded: [u8; DEVICE_SLOTS],
+    serial: [u32; DEVICE_SLOTS],
     values: Values,
 ) -> Loaded
     ensures { λ r.
-        ⌜ r ≡ accepted (configOf counts kind class owner hardcoded (values .count) (values .entries)) ⌝ }
+        ⌜ r ≡ accepted (configOf counts kind class owner hardcoded serial (values .count) (values .entries)) ⌝ }
 {
     let objects = Objects {
         kind: kind,
@@ -90,6 +94,7 @@ fn accept(
     };
     let devices = Devices {
         hardcoded: hardcoded,
+        serial: serial,
     };
     Loaded {
         answer: 0,
@@ -119,7 +124,8 @@ pub fn load(file: &[u8]) -> Loaded
         return refuse(fields::reading_question(p));
     };
     let mut hardcoded = [0u8; DEVICE_SLOTS];
-    let q = groups::read_devices(file, counts, a, &mut hardcoded);
+    let mut serial = [0u32; DEVICE_SLOTS];
+    let q = devices::read_devices(file, counts, a, &mut hardcoded, &mut serial);
     let Reading::At(b) = q else {
         return refuse(fields::reading_question(q));
     };
@@ -151,5 +157,5 @@ pub fn load(file: &[u8]) -> Loaded
         return refuse(no);
     }
     table.count = count;
-    accept(counts, kind, class, owner, hardcoded, table)
+    accept(counts, kind, class, owner, hardcoded, serial, table)
 }

@@ -53,6 +53,7 @@ use Rattle.sound.specs.Sound.{
   allFrom,
   valuePasses,
   deviceRestrained,
+  restrainedBy,
 }
 
 and-false : (b : Bool) → b && false ≡ false
@@ -291,6 +292,9 @@ module _ (config : Config) where
   passes-same c zero = refl
   passes-same c (suc v) = refl
 
-  pub restrained-same : everyTo (config .counts .devices) (deviceRestrained config) ≡ restrained config
-  unfolding restrained everyTo deviceRestrained
+  pub restrained-same :
+      restrainedBy (config .counts) (config .objects .kind) (config .objects .class) (config .objects .owner)
+      (config .devices .hardcoded) (config .values .count) (config .values .entries)
+      ≡ restrained config
+  unfolding restrained restrainedBy everyTo deviceRestrained
   restrained-same = every-same (config .counts .devices) _ _ (λ c low high. passes-same c (hardcodedOf config c))

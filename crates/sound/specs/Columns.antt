@@ -11,18 +11,18 @@ use Rattle.model.specs.declared.Config.{Config}
 abbrev pub objectsOf : List ℕ → List ℕ → List ℕ → Objects
 objectsOf kind class owner = record { kind = kind; class = class; owner = owner }
 
-abbrev pub devicesOf : List ℕ → Devices
-devicesOf hardcoded = record { hardcoded = hardcoded }
+abbrev pub devicesOf : List ℕ → List ℕ → Devices
+devicesOf hardcoded serial = record { hardcoded = hardcoded; serial = serial }
 
 abbrev pub valuesOf : List ℕ → List ℕ → Values
 valuesOf count entries = record { count = count; entries = entries }
 
-abbrev pub configOf : Counts → List ℕ → List ℕ → List ℕ → List ℕ → List ℕ → List ℕ → Config
-configOf counts kind class owner hardcoded count entries =
+abbrev pub configOf : Counts → List ℕ → List ℕ → List ℕ → List ℕ → List ℕ → List ℕ → List ℕ → Config
+configOf counts kind class owner hardcoded serial count entries =
     record {
       counts = counts;
       objects = objectsOf kind class owner;
-      devices = devicesOf hardcoded;
+      devices = devicesOf hardcoded serial;
       values = valuesOf count entries;
     }
 

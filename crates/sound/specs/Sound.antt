@@ -8,7 +8,6 @@ use Rattle.model.specs.Base.{all, every}
 use Rattle.model.specs.Config.{from1to, entryPlace, Entry, entriesFrom}
 use Rattle.model.specs.ConfigFile.{howMany}
 use Rattle.model.specs.declared.Counts.{Counts}
-use Rattle.model.specs.declared.Config.{Config}
 
 -- places up to here are far below the largest number of a machine word
 abbrev pub farPlace : ℕ
@@ -64,11 +63,12 @@ unfoldable pub valuePasses : (Entry → Bool) → List ℕ → List ℕ → ℕ 
 valuePasses p count table zero = true
 valuePasses p count table (suc v) = allFrom p table (entryPlace (suc v) 1) (getD count (suc v) 0)
 
--- the hardcoded value of device c passes
-unfoldable pub deviceRestrained : Config → ℕ → Bool
-deviceRestrained config c =
-    valuePasses
-    (entryPasses (config .objects .kind) (config .objects .class) (config .objects .owner) (config .counts .objects) c)
-    (config .values .count)
-    (config .values .entries)
-    (getD (config .devices .hardcoded) c 0)
+-- the hardcoded value of device c passes, with n objects
+unfoldable pub deviceRestrained : ℕ → List ℕ → List ℕ → List ℕ → List ℕ → List ℕ → List ℕ → ℕ → Bool
+deviceRestrained n kind class owner hardcoded count table c =
+    valuePasses (entryPasses kind class owner n c) count table (getD hardcoded c 0)
+
+-- question 6, with these counts
+unfoldable pub restrainedBy : Counts → List ℕ → List ℕ → List ℕ → List ℕ → List ℕ → List ℕ → Bool
+restrainedBy counts kind class owner hardcoded count table =
+    everyTo (counts .devices) (deviceRestrained (counts .objects) kind class owner hardcoded count table)

@@ -5,10 +5,9 @@ ghost use Prim.Native.Nat.{suc, _+_, _*_, _≤_};
 ghost use lib.Dec.{eqb};
 ghost use lib.ListN.{length, getD, replicate};
 ghost use Rattle.model.specs.Config.{mostDevices, mostObjects, entryBytes, entryAt};
-ghost use Rattle.model.specs.ConfigFile.{restrained};
-ghost use Rattle.sound.specs.Columns.{configOf, Within};
+ghost use Rattle.sound.specs.Columns.{Within};
 ghost use Rattle.sound.specs.Sound.{farPlace, everyTo, noted, oneIn};
-ghost use Rattle.sound.specs.Sound.{pairedBy, mayName, entryPasses, allFrom, valuePasses};
+ghost use Rattle.sound.specs.Sound.{pairedBy, mayName, entryPasses, allFrom, valuePasses, restrainedBy};
 use model::Counts;
 use model::DEVICE_CLASS;
 use model::DEVICE_SLOTS;
@@ -193,8 +192,8 @@ pub fn is_restrained<'a>(
 ) -> bool
     requires { ⌜ Within counts ⌝ }
     ensures { λ r.
-        ⌜ r ≡ restrained (configOf counts (now (kind .entry)) (now (class .entry)) (now (owner .entry))
-        (now (hardcoded .entry)) (now (count .entry)) (now (entries .entry))) ⌝ }
+        ⌜ r ≡ restrainedBy counts (now (kind .entry)) (now (class .entry)) (now (owner .entry))
+        (now (hardcoded .entry)) (now (count .entry)) (now (entries .entry)) ⌝ }
 {
     let last = counts.devices;
     let mut i: u8 = 0;

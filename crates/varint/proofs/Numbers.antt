@@ -1,7 +1,7 @@
 -- Laws of `lead` at a place of a list, and of `numberAt` by cases.
 -- Assumes nothing.
 use Prim.Native.Nat.{ℕ, zero, suc, _+_, _-_, _*_, _%_, _<_, _≤_}
-use mathlib.Core.Path.{_≡_, refl, sym, _∙_}
+use mathlib.Core.Path.{_≡_, refl, sym, _∙_, subst}
 use native.Mathlib.Numerals.{add-one}
 use mathlib.Core.List.{List}
 use mathlib.Core.Bool.{Bool, true, false, false≢true, _&&_, _||_}
@@ -13,9 +13,23 @@ use native.Mathlib.Omega.{arith}
 use Rattle.model.specs.declared.Fault.the-variants.{Cut, Form}
 use Rattle.model.specs.declared.Num.{Num}
 use Rattle.model.specs.declared.Num.the-variants.{Got, Bad}
-use Rattle.model.specs.Number.{mostNumber, mostBytes, lead, valueOf, shortest, formed, formAt, headAt, numberAt}
+use Rattle.model.specs.Number.{
+  mostNumber,
+  mostBytes,
+  lead,
+  valueOf,
+  shortest,
+  formed,
+  formedTo,
+  formAt,
+  formTo,
+  headTo,
+  numberAt,
+  numberTo,
+}
 use Rattle.model.specs.NumberMeans.{numMeans, meantAt}
 use Rattle.model.proofs.NumberMeans.{means-at}
+use Rattle.model.proofs.OldNumbers.{never-large}
 use Rattle.varint.specs.Run.{runBytes, highRun, fullRun}
 
 module _ (s : List ℕ) (i : ℕ) where
@@ -101,14 +115,20 @@ module _ (s : List ℕ) (at : ℕ) (h : at < length s) where
 -- the number at a place of s: e is the place of its last byte
 module _ (s : List ℕ) (at e : ℕ) (p : e ≡ at + lead (drop at s)) where
   pub number-cut : length s ≤ e → numberAt s at ≡ Bad Cut
-  unfolding headAt numberAt
+  unfolding headTo numberTo
   number-cut h = rw (le-ltb (lead (drop at s)) (length (drop at s)) (simp length-drop (omega arith)))
 
   pub number-form : e < length s → numberAt s at ≡ formAt at (drop at s) (e - at)
-  unfolding headAt numberAt
+  unfolding headTo numberTo
   number-form h =
       let q : lead (drop at s) ≡ e - at = omega arith in
       rw (lt-ltb (lead (drop at s)) (length (drop at s)) (simp length-drop (omega arith)), q)
+
+  pub value-fits : e < length s → e - at < mostBytes → valueOf (drop at s) (e - at) ≤ mostNumber
+  value-fits h few =
+      let q : lead (drop at s) ≡ e - at = omega arith in
+      subst (λ (n : ℕ). valueOf (drop at s) n ≤ mostNumber) q
+      (never-large (drop at s) (simp length-drop (omega arith)) (omega arith))
 
   pub last-byte : getD (drop at s) (e - at) 0 ≡ getD s e 0
   last-byte =
@@ -117,11 +137,11 @@ module _ (s : List ℕ) (at e : ℕ) (p : e ≡ at + lead (drop at s)) where
 
 module _ (at : ℕ) (t : List ℕ) (n : ℕ) where
   pub form-bad : formed t n ≡ false → formAt at t n ≡ Bad Form
-  unfolding formAt
+  unfolding formTo
   form-bad h = rw h
 
   pub form-got : (e v : ℕ) → at + n ≡ e → v ≡ valueOf t n → formed t n ≡ true → formAt at t n ≡ Got v (e + 1)
-  unfolding formAt
+  unfolding formTo
   form-got e v p q h = rw (h, p, q)
 
 module _ (t : List ℕ) (n : ℕ) where
@@ -138,21 +158,16 @@ module _ (t : List ℕ) (n : ℕ) where
   shortest-not b p h z = rw (p, z, ne-eqb n 0 (omega arith))
 
   pub formed-long : mostBytes ≤ n → formed t n ≡ false
-  unfolding formed
+  unfolding formedTo
   formed-long h = rw (le-ltb n mostBytes h)
 
   pub formed-padded : n < mostBytes → shortest t n ≡ false → formed t n ≡ false
-  unfolding formed
+  unfolding formedTo
   formed-padded h p = rw (lt-ltb n mostBytes h, p)
-
-  pub formed-large : (v : ℕ) → v ≡ valueOf t n → n < mostBytes → shortest t n ≡ true → mostNumber < v
-      → formed t n ≡ false
-  unfolding formed
-  formed-large v e h p q = rw (lt-ltb n mostBytes h, p, ← e, lt-leb v mostNumber q)
 
   pub formed-right : (v : ℕ) → v ≡ valueOf t n → n < mostBytes → shortest t n ≡ true → v ≤ mostNumber
       → formed t n ≡ true
-  unfolding formed
+  unfolding formedTo
   formed-right v e h p q = rw (lt-ltb n mostBytes h, p, ← e, le-leb v mostNumber q)
 
 -- a number of one byte

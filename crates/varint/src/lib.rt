@@ -8,7 +8,6 @@ ghost use Rattle.page.specs.Page.{Placed};
 ghost use Rattle.varint.specs.Run.{fullRun};
 use model::Fault;
 use model::MOST_BYTES;
-use model::MOST_NUMBER;
 use model::Num;
 use model::wide;
 use page::lay;
@@ -104,7 +103,7 @@ fn value(s: &[u8], at: usize, n: usize) -> usize
     first % 128 + 128 * (second % 128 + 128 * third)
 }
 
-// The number at `at`, of any length.
+// The number at `at`, of any length. What three bytes hold is never above the largest number.
 fn long_number(s: &[u8], at: usize) -> Num
     ensures { λ r. ⌜ r ≡ numberAt (now (s .entry)) at ⌝ }
 {
@@ -121,11 +120,7 @@ fn long_number(s: &[u8], at: usize) -> Num
             return Num::Bad(Fault::Form);
         }
     }
-    let v = value(s, at, n);
-    if MOST_NUMBER < v {
-        return Num::Bad(Fault::Form);
-    }
-    Num::Got(v, end + 1)
+    Num::Got(value(s, at, n), end + 1)
 }
 
 // The number at `at` with the place after it, or what is wrong there; and what each case means by questions 1 and 2.

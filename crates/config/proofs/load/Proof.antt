@@ -2,7 +2,7 @@
 -- then the first no among questions 4 to 6 decides. Assumes nothing.
 use mathlib.Core.Path.{refl, _∙_}
 use borrow.Author.Needs.{needs}
-use Rattle.model.specs.ConfigFile.{objectsAt, devicesAt, valuesAt}
+use Rattle.model.specs.ConfigFile.{objectsTo, devicesTo, valuesTo}
 use Rattle.config.proofs.Readers
 use Rattle.sound.proofs.Questions
 use Rattle.config.proofs.load.Statement.{statement}
@@ -46,7 +46,7 @@ refuse-requires-2 : tie.Need-refuse-requires-2
 refuse-requires-2 c κs = search needs
 
 returns-2 : tie.Need-returns-2
-unfolding objectsAt
+unfolding objectsTo
 returns-2 c =
     let o = c .before .before .before .before in
     let n = o .before .before .before .before .before .before .before in
@@ -57,8 +57,8 @@ returns-2 c =
 read-devices-requires : tie.Need-read-devices-requires
 read-devices-requires c κs =
     Readers.counts-within _ (c .before .before .before .before .before .before .before .before .before .before
-    .before .read-counts .ensures)
-    (c .before .before .before .before .before .before .before .before .before .head .given .1)
+    .before .before .read-counts .ensures)
+    (c .before .before .before .before .before .before .before .before .before .before .head .given .1)
 
 enum-known-q : tie.Need-enum-known-q
 enum-known-q c = search needs
@@ -73,22 +73,22 @@ refuse-requires-3 : tie.Need-refuse-requires-3
 refuse-requires-3 c κs = search needs
 
 returns-3 : tie.Need-returns-3
-unfolding objectsAt devicesAt
+unfolding objectsTo devicesTo
 returns-3 c =
     let d = c .before .before .before .before in
-    let o = d .before .before .before .before .before in
+    let o = d .before .before .before .before .before .before in
     let n = o .before .before .before .before .before .before .before in
     Readers.devices-stop _ (n .read-counts .ensures) (o .before .before .before .before .before .head .given .1)
-    (o .read-objects .ensures) (d .before .before .before .p .given .1)
+    (o .read-objects .ensures) (d .before .before .before .before .p .given .1)
     (d .read-devices .ensures) (c .before .before .enum-told3 .given .1)
     (rw (← c .before .reading-question2 .ensures) (c .refuse3 .ensures))
 
 read-values-requires : tie.Need-read-values-requires
 read-values-requires c κs =
     Readers.counts-within _ (c .before .before .before .before .before .before .before .before .before .before
-    .before .before .before .before .before .before .before .before .read-counts .ensures)
+    .before .before .before .before .before .before .before .before .before .read-counts .ensures)
     (c .before .before .before .before .before .before .before .before .before .before .before .before .before
-    .before .before .before .head .given .1)
+    .before .before .before .before .head .given .1)
 
 enum-known-r : tie.Need-enum-known-r
 enum-known-r c = search needs
@@ -103,14 +103,14 @@ refuse-requires-4 : tie.Need-refuse-requires-4
 refuse-requires-4 c κs = search needs
 
 returns-4 : tie.Need-returns-4
-unfolding objectsAt devicesAt valuesAt
+unfolding objectsTo devicesTo valuesTo
 returns-4 c =
     let v = c .before .before .before .before in
     let d = v .before .before .before .before .before .before .before in
-    let o = d .before .before .before .before .before in
+    let o = d .before .before .before .before .before .before in
     let n = o .before .before .before .before .before .before .before in
     Readers.values-stop _ (n .read-counts .ensures) (o .before .before .before .before .before .head .given .1)
-    (o .read-objects .ensures) (d .before .before .before .p .given .1)
+    (o .read-objects .ensures) (d .before .before .before .before .p .given .1)
     (d .read-devices .ensures) (v .before .before .before .before .before .q .given .1)
     (v .read-values .ensures) (c .before .before .enum-told4 .given .1)
     (rw (← c .before .reading-question3 .ensures) (c .refuse4 .ensures))
@@ -119,15 +119,15 @@ refuse-requires-5 : tie.Need-refuse-requires-5
 refuse-requires-5 c κs = search needs
 
 returns-5 : tie.Need-returns-5
-unfolding objectsAt devicesAt valuesAt
+unfolding objectsTo devicesTo valuesTo
 returns-5 c =
     let i = c .before in
     let v = i .before .before .before .before in
     let d = v .before .before .before .before .before .before .before in
-    let o = d .before .before .before .before .before in
+    let o = d .before .before .before .before .before .before in
     let n = o .before .before .before .before .before .before .before in
     Readers.all-go _ (n .read-counts .ensures) (o .before .before .before .before .before .head .given .1)
-    (o .read-objects .ensures) (d .before .before .before .p .given .1)
+    (o .read-objects .ensures) (d .before .before .before .before .p .given .1)
     (d .read-devices .ensures) (v .before .before .before .before .before .q .given .1)
     (v .read-values .ensures) (i .before .before .r .given .1)
     (Readers.left-over _ _ _ (i .if1 .taken) (c .refuse5 .ensures))
@@ -135,7 +135,7 @@ returns-5 c =
 is-paired-requires : tie.Need-is-paired-requires
 is-paired-requires c κs =
     let o = c .before .before .before .before .before .before .before .before .before .before .before .before
-    .before .before .before .before .before .before .before .before in (
+    .before .before .before .before .before .before .before .before .before in (
       Readers.counts-within _ (o .before .before .before .before .before .before .before .read-counts .ensures) (o
           .before .before .before .before .before .head .given .1),
       refl,
@@ -145,7 +145,7 @@ is-restrained-requires : tie.Need-is-restrained-requires
 is-restrained-requires c κs =
     let o = c .before .before .before .before .before .before .before .before .before .before .before .before
     .before .before .before .before .before .before .before .before .before .before .before .before .before
-    .before .before .before in
+    .before .before .before .before in
     Readers.counts-within _ (o .before .before .before .before .before .before .before .read-counts .ensures) (o
     .before .before .before .before .before .head .given .1)
 
@@ -156,7 +156,7 @@ refuse-requires-6 : tie.Need-refuse-requires-6
 refuse-requires-6 c κs = search needs
 
 returns-6 : tie.Need-returns-6
-unfolding objectsAt devicesAt valuesAt
+unfolding objectsTo devicesTo valuesTo
 returns-6 c =
     let f = c .before .before in
     let j = f .before in
@@ -164,22 +164,23 @@ returns-6 c =
     let i = a .before .before .before .before .before in
     let v = i .before .before .before .before in
     let d = v .before .before .before .before .before .before .before in
-    let o = d .before .before .before .before .before in
+    let o = d .before .before .before .before .before .before in
     let n = o .before .before .before .before .before .before .before in
     Readers.all-go _ (n .read-counts .ensures) (o .before .before .before .before .before .head .given .1)
-    (o .read-objects .ensures) (d .before .before .before .p .given .1)
+    (o .read-objects .ensures) (d .before .before .before .before .p .given .1)
     (d .read-devices .ensures) (v .before .before .before .before .before .q .given .1)
     (v .read-values .ensures) (i .before .before .r .given .1)
     (Readers.not-sound _ _ _
     (Readers.all-read _ _ _ (i .if1 .left)
-    (a .is-paired .ensures ∙ Questions.paired-same _) (j .is-restrained .ensures) (f .first-no .ensures))
+    (a .is-paired .ensures ∙ Questions.paired-same _) (j .is-restrained .ensures ∙ Questions.restrained-same _)
+    (f .first-no .ensures))
     (c .before .if2 .taken) (c .refuse6 .ensures))
 
 accept-requires : tie.Need-accept-requires
 accept-requires c κs = search needs
 
 returns-7 : tie.Need-returns-7
-unfolding objectsAt devicesAt valuesAt
+unfolding objectsTo devicesTo valuesTo
 returns-7 c =
     let f = c .before .before in
     let j = f .before in
@@ -187,15 +188,16 @@ returns-7 c =
     let i = a .before .before .before .before .before in
     let v = i .before .before .before .before in
     let d = v .before .before .before .before .before .before .before in
-    let o = d .before .before .before .before .before in
+    let o = d .before .before .before .before .before .before in
     let n = o .before .before .before .before .before .before .before in
     Readers.all-go _ (n .read-counts .ensures) (o .before .before .before .before .before .head .given .1)
-    (o .read-objects .ensures) (d .before .before .before .p .given .1)
+    (o .read-objects .ensures) (d .before .before .before .before .p .given .1)
     (d .read-devices .ensures) (v .before .before .before .before .before .q .given .1)
     (v .read-values .ensures) (i .before .before .r .given .1)
     (Readers.accepts _ _ _
     (Readers.all-read _ _ _ (i .if1 .left)
-    (a .is-paired .ensures ∙ Questions.paired-same _) (j .is-restrained .ensures) (f .first-no .ensures))
+    (a .is-paired .ensures ∙ Questions.paired-same _) (j .is-restrained .ensures ∙ Questions.restrained-same _)
+    (f .first-no .ensures))
     (c .before .if2 .left) (c .accept .ensures))
 
 pub load-spec : {M : Type 1} → statement M

@@ -4,15 +4,15 @@ use Prim.Native.Nat.{_≤_, _-_}
 use borrow.Author.Tests.{not-true, not-false}
 use mathlib.Core.Bool.{true}
 use mathlib.Core.Path.{_≡_, sym, _∙_}
-use Rattle.sound.specs.Columns.{configOf}
-use Rattle.sound.specs.Sound.{everyTo, deviceRestrained}
+use Rattle.sound.specs.Sound.{everyTo, deviceRestrained, restrainedBy}
 use Rattle.sound.proofs.Questions
 use Rattle.sound.proofs.is_restrained.Statement.{statement}
 use Rattle.sound.proofs.is_restrained.Tie as tie
 
 abbrev Inv-loop : tie.InvT-loop
 Inv-loop counts kind class owner hardcoded count entries last i₀ i =
-    (i ≤ last) × (everyTo i (deviceRestrained (configOf counts kind class owner hardcoded count entries)) ≡ true)
+    (i ≤ last)
+    × (everyTo i (deviceRestrained (counts .objects) kind class owner hardcoded count entries) ≡ true)
 
 abbrev μ-loop : tie.MeasureT-loop
 μ-loop counts kind class owner hardcoded count entries last i₀ i = last - i
@@ -33,11 +33,10 @@ value-passes-requires : tie.Need-value-passes-requires Inv-loop μ-loop
 value-passes-requires c κs = search needs
 
 returns : tie.Need-returns Inv-loop μ-loop
-unfolding deviceRestrained
+unfolding deviceRestrained restrainedBy
 returns c =
     Questions.every-to-stop _ _ _ (c .before .before .before .before .before .loop-test .taken)
     (sym (c .before .value-passes .ensures) ∙ not-true (c .before .value-passes .result) (c .if1 .taken))
-    ∙ Questions.restrained-same _
 
 loop-less : tie.Need-loop-less Inv-loop μ-loop
 loop-less c = search needs
@@ -51,9 +50,9 @@ loop-again c = (
 )
 
 returns-2 : tie.Need-returns-2 Inv-loop μ-loop
+unfolding restrainedBy
 returns-2 c =
     Questions.every-to-end _ _ _ (c .before .loop .inv .1) (c .before .loop .inv .0) (c .loop-test .left)
-    ∙ Questions.restrained-same _
 
 pub is-restrained-spec : {M : Type 1} → statement M
 is-restrained-spec =

@@ -49,20 +49,16 @@ short c =
     (w .2 .left))
     (λ w. Numbers.shortest-one _ _ (w .left)) (c .if3 .came)
 
+add-t13 : tie.Need-add-t13
+add-t13 c = search needs
+
 returns-4 : tie.Need-returns-4
 returns-4 c =
-    sym (Numbers.number-form _ _ _ (c .before .before .before .before .before .last .ensures) (omega arith)
-    ∙ Numbers.form-bad _ _ _
-    (Numbers.formed-large _ _ _ (c .before .value .ensures) (omega arith) (short (c .before .before)) (c .if5 .taken)))
-
-add-t6 : tie.Need-add-t6
-add-t6 c = search needs
-
-returns-5 : tie.Need-returns-5
-returns-5 c =
-    sym (Numbers.number-form _ _ _ (c .before .before .before .before .before .last .ensures) (omega arith)
-    ∙ Numbers.form-got _ _ _ _ _ (omega arith) (c .before .value .ensures)
-    (Numbers.formed-right _ _ _ (c .before .value .ensures) (omega arith) (short (c .before .before)) (c .if5 .left)))
+    let e = c .before .before .before .before .last .ensures in
+    sym (Numbers.number-form _ _ _ e (omega arith)
+    ∙ Numbers.form-got _ _ _ _ _ (omega arith) (c .value .ensures)
+    (Numbers.formed-right _ _ _ (c .value .ensures) (omega arith) (short (c .before))
+    (rw (c .value .ensures) (Numbers.value-fits _ _ _ e (omega arith) (omega arith)))))
 
 pub long-number-spec : {M : Type 1} → statement M
 long-number-spec =
@@ -75,6 +71,5 @@ long-number-spec =
     shared-slice-read-if4
     returns-3
     value-requires
-    returns-4
-    add-t6
-    returns-5)
+    add-t13
+    returns-4)

@@ -2,7 +2,7 @@
 -- an `on-stop`; the stores compute to `setObject`. Assumes nothing.
 use mathlib.Core.Path.{refl}
 use borrow.Author.Needs.{needs}
-use Rattle.model.specs.ConfigFile.{object, stop, read, setObject}
+use Rattle.model.specs.ConfigFile.{objectTo, stop, read, setObject}
 use Rattle.config.proofs.Readers
 use Rattle.config.proofs.groups.object_by_fields.Statement.{statement}
 use Rattle.config.proofs.groups.object_by_fields.Tie as tie
@@ -20,7 +20,7 @@ refused-requires : tie.Need-refused-requires
 refused-requires c κs = search needs
 
 returns : tie.Need-returns
-unfolding object stop read setObject
+unfolding objectTo stop read setObject
 returns c =
     Readers.on-stop _ _ _ (c .before .before .before .read-field .ensures) (c .before .enum-told .given .1)
     (rw (c .refused .ensures))
@@ -38,7 +38,7 @@ refused-requires-2 : tie.Need-refused-requires-2
 refused-requires-2 c κs = search needs
 
 returns-2 : tie.Need-returns-2
-unfolding object stop read setObject
+unfolding objectTo stop read setObject
 returns-2 c =
     Readers.on-go _ _ _ (c .before .before .before .before .before .before .before .read-field .ensures)
     (c .before .before .before .before .before .f .given .1)
@@ -64,7 +64,7 @@ refused-requires-3 : tie.Need-refused-requires-3
 refused-requires-3 c κs = search needs
 
 returns-3 : tie.Need-returns-3
-unfolding object stop read setObject
+unfolding objectTo stop read setObject
 returns-3 c =
     Readers.on-go _ _ _
     (c .before .before .before .before .before .before .before .before .before .before .before .before .before
@@ -90,7 +90,7 @@ element-write-owner : tie.Need-element-write-owner
 element-write-owner c = search needs
 
 returns-4 : tie.Need-returns-4
-unfolding object stop read setObject
+unfolding objectTo stop read setObject
 returns-4 c =
     Readers.on-go _ _ _
     (c .before .before .before .before .before .before .before .before .before .before .before .before .before

@@ -2,7 +2,7 @@
 -- an `on-stop`; the stores compute to `setEntry`. Assumes nothing.
 use native.Mathlib.Omega.{arith}
 use borrow.Author.Needs.{needs}
-use Rattle.model.specs.ConfigFile.{entry, stop, read, setEntry}
+use Rattle.model.specs.ConfigFile.{entryTo, stop, read, setEntry}
 use Rattle.config.proofs.Readers
 use Rattle.config.proofs.values.entry_by_fields.Statement.{statement}
 use Rattle.config.proofs.values.entry_by_fields.Tie as tie
@@ -20,7 +20,7 @@ refused-requires : tie.Need-refused-requires
 refused-requires c κs = search needs
 
 returns : tie.Need-returns
-unfolding entry stop read setEntry
+unfolding entryTo stop read setEntry
 returns c =
     λ count. Readers.on-stop _ _ _ (c .before .before .before .read-field .ensures) (c .before .enum-told .given .1)
     (rw (c .refused .ensures))
@@ -38,7 +38,7 @@ refused-requires-2 : tie.Need-refused-requires-2
 refused-requires-2 c κs = search needs
 
 returns-2 : tie.Need-returns-2
-unfolding entry stop read setEntry
+unfolding entryTo stop read setEntry
 returns-2 c =
     λ count. Readers.on-go _ _ _ (c .before .before .before .before .before .before .before .read-field .ensures)
     (c .before .before .before .before .before .f .given .1)
@@ -64,7 +64,7 @@ refused-requires-3 : tie.Need-refused-requires-3
 refused-requires-3 c κs = search needs
 
 returns-3 : tie.Need-returns-3
-unfolding entry stop read setEntry
+unfolding entryTo stop read setEntry
 returns-3 c =
     λ count. Readers.on-go _ _ _
     (c .before .before .before .before .before .before .before .before .before .before .before .before .read-field
@@ -94,7 +94,7 @@ element-write-entries-3 : tie.Need-element-write-entries-3
 element-write-entries-3 c = search needs
 
 returns-4 : tie.Need-returns-4
-unfolding entry stop read setEntry
+unfolding entryTo stop read setEntry
 returns-4 c =
     λ count. Readers.on-go _ _ _
     (c .before .before .before .before .before .before .before .before .before .before .before .before .before

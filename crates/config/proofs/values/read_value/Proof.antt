@@ -1,6 +1,6 @@
 -- `config::values::read_value` meets its contract: the count goes on to its entries or is refused. Assumes nothing.
 use borrow.Author.Needs.{needs}
-use Rattle.model.specs.ConfigFile.{value, stop, setCount}
+use Rattle.model.specs.ConfigFile.{valueTo, stop, setCount}
 use Rattle.config.proofs.Readers
 use Rattle.config.proofs.values.read_value.Statement.{statement}
 use Rattle.config.proofs.values.read_value.Tie as tie
@@ -18,7 +18,7 @@ refused-requires : tie.Need-refused-requires
 refused-requires c κs = search needs
 
 returns : tie.Need-returns
-unfolding value stop setCount
+unfolding valueTo stop setCount
 returns c =
     Readers.on-stop _ _ _ (c .before .before .before .quick-field .ensures) (c .before .enum-told .given .1)
     (rw (c .refused .ensures))
@@ -33,7 +33,7 @@ read-entries-requires c κs =
     ((a .pre .0, h), a .pre .1)
 
 returns-2 : tie.Need-returns-2
-unfolding value stop setCount
+unfolding valueTo stop setCount
 returns-2 c =
     Readers.on-go _ _ _ (c .before .before .before .before .before .quick-field .ensures)
     (c .before .before .before .f .given .1)
