@@ -1,15 +1,18 @@
 -- The bytes of a configuration's file put down group by group: what a loop has put down, how far that is, and that
 -- the groups by columns are the model's file.
-use Prim.Native.Nat.{ℕ, _+_, _*_, _≤_}
-use mathlib.Core.Path.{_≡_, sym, ap, _∙_, subst}
-use mathlib.Core.List.{List, [], _++_, append-assoc, append-nil}
-use mathlib.Core.Bool.{true}
+use Prim.Native.Nat.{ℕ, _+_, _*_, _≤_, _<_}
+use mathlib.Core.Path.{_≡_, refl, sym, ap, _∙_, subst}
+use mathlib.Core.List.{List, [], _∷_, _++_, append-assoc, append-nil}
+use mathlib.Core.Bool.{Bool, true, false, cond}
 use native.Mathlib.Omega.{arith}
 use native.Mathlib.Numerals.{add-one}
 use lib.ListN.{length, getD, length-append}
+use lib.Dec.{leb}
+use borrow.Author.Tests.{le-leb, lt-leb, leb-true}
 use Rattle.model.specs.Number.{mostBytes, bytesOf}
-use Rattle.model.specs.Config.{mostEntries, entryPlace}
-use Rattle.model.specs.ConfigFile.{countsRow}
+use Rattle.model.specs.Base.{all}
+use Rattle.model.specs.Config.{mostEntries, serialEdition, mostSerial, entryPlace, hardcodedOf, serialOf}
+use Rattle.model.specs.ConfigFile.{done, field, absent, countsRow}
 use Rattle.model.specs.ConfigWrite.{
   rowsFrom,
   countsNumbers,
@@ -23,6 +26,7 @@ use Rattle.model.specs.ConfigWrite.{
   rowBytes,
   rowsBytes,
   fileOf,
+  rightRow,
   inRanges,
 }
 use Rattle.model.specs.declared.Counts.{Counts}
@@ -31,9 +35,20 @@ use Rattle.model.proofs.Copied.{rows-more, rows-same}
 use Rattle.model.proofs.FileLength.{bytes-most, from-most, rows-bytes}
 use Rattle.model.proofs.FileRead.{FewCounts}
 use Rattle.model.proofs.FileWritten.{few-entries, ranges-asked}
+use Rattle.model.proofs.Lists.{and-r, every-at}
 use Rattle.page.specs.Page.{Placed}
 use Rattle.page.proofs.Laying.{placed-nil, placed-then}
-use Rattle.writer.specs.Bytes.{anyValueBytes, three, objectBytes, deviceBytes, entryBytesOf, valueBytes}
+use Rattle.writer.specs.Bytes.{
+  anyValueBytes,
+  three,
+  withSerial,
+  objectBytes,
+  deviceBytes,
+  entryBytesOf,
+  valueBytes,
+}
+use Rattle.writer.specs.Tests.{serialMost, deviceRight}
+use Rattle.writer.proofs.Testing.{serial-some, device-same}
 
 -- a number, three numbers, and the counts
 module _ (at : ℕ) (out : List ℕ) where
@@ -64,7 +79,7 @@ three-most a b c =
 
 module _ (out : List ℕ) (counts : Counts) where
   pub counts-placed : {p q r : ℕ} {out₁ out₂ out₃ : List ℕ}
-      → Placed (three 1 (counts .drivers) (counts .devices)) 0 out p out₁
+      → Placed (three (counts .edition) (counts .drivers) (counts .devices)) 0 out p out₁
       → Placed (bytesOf (counts .objects)) p out₁ q out₂ → Placed (bytesOf (counts .values)) q out₂ r out₃
       → Placed (rowBytes countsRow (countsNumbers counts)) 0 out r out₃
   unfolding three rowBytes
@@ -73,12 +88,32 @@ module _ (out : List ℕ) (counts : Counts) where
       let v = bytesOf (counts .values) in
       let d = bytesOf (counts .drivers) in
       let c = bytesOf (counts .devices) in
-      let e : (bytesOf 1 ++ (d ++ c)) ++ (o ++ v) ≡ bytesOf 1 ++ (d ++ (c ++ (o ++ (v ++ [])))) =
-      append-assoc (bytesOf 1) (d ++ c) (o ++ v)
-      ∙ ap (λ (t : List ℕ). bytesOf 1 ++ t) (append-assoc d c (o ++ v)
+      let n = bytesOf (counts .edition) in
+      let e : (n ++ (d ++ c)) ++ (o ++ v) ≡ n ++ (d ++ (c ++ (o ++ (v ++ [])))) =
+      append-assoc n (d ++ c) (o ++ v)
+      ∙ ap (λ (t : List ℕ). n ++ t) (append-assoc d c (o ++ v)
       ∙ ap (λ (t : List ℕ). d ++ (c ++ (o ++ t))) (sym (append-nil v))) in
       subst (λ (t : List ℕ). Placed t 0 out r out₃) e
-      (placed-then 0 out (bytesOf 1 ++ (d ++ c)) (o ++ v) h (placed-then p out₁ o v k l))
+      (placed-then 0 out (n ++ (d ++ c)) (o ++ v) h (placed-then p out₁ o v k l))
+
+-- a device, by its ways out
+module _ (edition number serial at : ℕ) (out : List ℕ) {p : ℕ} {out₁ : List ℕ}
+    (h : Placed (bytesOf number) at out p out₁) where
+  pub device-plain : edition < serialEdition
+      → Placed (withSerial edition number serial) at out p out₁ × (p ≤ at + 2 * mostBytes)
+  unfolding withSerial
+  device-plain l = (
+    rw (lt-leb serialEdition edition l, append-nil (bytesOf number)) h,
+    omega (arith, h .0, bytes-most number),
+  )
+
+  pub device-serial : serialEdition ≤ edition → {q : ℕ} {out₂ : List ℕ} → Placed (bytesOf serial) p out₁ q out₂
+      → Placed (withSerial edition number serial) at out q out₂ × (q ≤ at + 2 * mostBytes)
+  unfolding withSerial
+  device-serial l k = (
+    rw (le-leb serialEdition edition l) (placed-then at out (bytesOf number) (bytesOf serial) h k),
+    omega (arith, h .0, k .0, bytes-most number, bytes-most serial),
+  )
 
 -- a loop that puts down what stands for the numbers 1 to i
 module _ (f : ℕ → List ℕ) (at : ℕ) (out : List ℕ) where
@@ -154,11 +189,17 @@ module _ (config : Config) where
   object-row o = three-row _ _ _
 
   device-row : (c : ℕ) → rowsBytes (deviceRows (config .counts) (config .devices) c)
-      ≡ deviceBytes (config .devices .hardcoded) c
-  unfolding rowsBytes rowBytes deviceBytes
+      ≡ deviceBytes (config .counts .edition) (config .devices .hardcoded) (config .devices .serial) c
+  unfolding rowsBytes rowBytes deviceBytes withSerial
   device-row c =
-      let n = bytesOf (getD (config .devices .hardcoded) c 0) in
-      append-nil (n ++ []) ∙ append-nil n
+      append-nil _
+      ∙ ap (λ (t : List ℕ). bytesOf (getD (config .devices .hardcoded) c 0) ++ t)
+      (go (getD (config .devices .serial) c 0) (leb serialEdition (config .counts .edition)))
+    where
+      go : (s : ℕ) (t : Bool) → rowBytes (cond t (field 0 mostSerial λ serial. done) (absent done)) (s ∷ [])
+          ≡ cond t (bytesOf s) []
+      go s true = append-nil (bytesOf s)
+      go s false = refl
 
   entry-row : (v j : ℕ) → rowsBytes (entryRows (config .counts) (config .objects .kind) (config .values) v j)
       ≡ entryBytesOf (config .values .entries) v j
@@ -185,7 +226,8 @@ module _ (config : Config) where
       ∙ rows-same _ _ (config .counts .objects) 0 (λ o low high. object-row o)
 
   devices-bytes : rowsBytes (deviceTable config)
-      ≡ rowsFrom (deviceBytes (config .devices .hardcoded)) (config .counts .devices) 0
+      ≡ rowsFrom (deviceBytes (config .counts .edition) (config .devices .hardcoded) (config .devices .serial))
+      (config .counts .devices) 0
   devices-bytes =
       rows-bytes (deviceRows (config .counts) (config .devices)) (config .counts .devices) 0
       ∙ rows-same _ _ (config .counts .devices) 0 (λ c low high. device-row c)
@@ -201,7 +243,8 @@ module _ (config : Config) where
       → Placed (rowBytes countsRow (countsNumbers (config .counts))) 0 out a out₁
       → Placed (rowsFrom (objectBytes (config .objects .kind) (config .objects .class) (config .objects .owner))
       (config .counts .objects) 0) a out₁ b out₂
-      → Placed (rowsFrom (deviceBytes (config .devices .hardcoded)) (config .counts .devices) 0) b out₂ c out₃
+      → Placed (rowsFrom (deviceBytes (config .counts .edition) (config .devices .hardcoded) (config .devices .serial))
+      (config .counts .devices) 0) b out₂ c out₃
       → Placed (rowsFrom (valueBytes (config .values .count) (config .values .entries)) (config .counts .values) 0)
       c out₃ d out₄
       → Placed (fileOf config) 0 out d out₄
@@ -210,10 +253,23 @@ module _ (config : Config) where
       rw (objects-bytes, devices-bytes, values-bytes)
       (placed-then 0 out _ _ h (placed-then a out₁ _ _ o (placed-then b out₂ _ _ e v)))
 
-  -- what question 3 tells of the counts
+  -- what question 3 tells of the counts and the serials
   module _ (h : inRanges config ≡ true) where
     pub few-of : FewCounts (config .counts)
     few-of = ranges-asked config h .few
 
     pub entries-few : (v : ℕ) → 1 ≤ v → v ≤ config .counts .values → getD (config .values .count) v 0 ≤ mostEntries
     entries-few = few-entries config (ranges-asked config h)
+
+    pub serials-few : (c : ℕ) → 1 ≤ c → c ≤ config .counts .devices → serialEdition ≤ config .counts .edition
+        → serialOf config c ≤ mostSerial
+    unfolding deviceRight
+    serials-few c low high l =
+        let n = config .counts in
+        let right =
+        device-same config c
+        ∙ every-at (n .devices) (λ c. all rightRow (deviceRows n (config .devices) c)) (ranges-asked config h .devices)
+        c low high in
+        subst (λ (top : ℕ). serialOf config c ≤ top) (sym (serial-some (n .edition) l))
+        (leb-true (serialOf config c) (serialMost (n .edition))
+        (and-r (leb (hardcodedOf config c) (n .values)) (leb (serialOf config c) (serialMost (n .edition))) right))

@@ -2,11 +2,12 @@
 use Prim.Native.Nat.{ℕ, zero, suc, _+_, _≤_, _<_}
 use mathlib.Core.Path.{_≡_, refl, sym, ap, _∙_}
 use mathlib.Core.List.{List, [], _∷_, _++_}
-use mathlib.Core.Bool.{Bool, true, false, _&&_}
+use mathlib.Core.Bool.{Bool, true, false, cond, _&&_}
 use native.Mathlib.Omega.{arith}
+use native.Mathlib.Decide.{ℕ-discrete}
 use lib.ListN.{getD}
-use lib.Dec.{leb}
-use borrow.Author.Tests.{le-leb, lt-leb}
+use lib.Dec.{leb, eqb}
+use borrow.Author.Tests.{le-leb, lt-leb, eq-eqb, ne-eqb}
 use Rattle.model.specs.Base.{all, every}
 use Rattle.model.specs.Config.{
   mostDrivers,
@@ -14,12 +15,15 @@ use Rattle.model.specs.Config.{
   mostObjects,
   mostValues,
   mostEntries,
+  mostEdition,
+  serialEdition,
+  mostSerial,
   mostKind,
   mostClass,
   mostMode,
   entryPlace,
 }
-use Rattle.model.specs.ConfigFile.{ownerLeast, ownerMost, storedMost, countsRow, entryRow}
+use Rattle.model.specs.ConfigFile.{done, field, absent, ownerLeast, ownerMost, storedMost, countsRow, entryRow}
 use Rattle.model.specs.ConfigWrite.{
   rowsFrom,
   countsNumbers,
@@ -39,7 +43,7 @@ use Rattle.model.proofs.FileWritten.{few-counts}
 use Rattle.sound.specs.Columns.{Within}
 use Rattle.sound.specs.Sound.{everyTo}
 use Rattle.config.specs.Quick.{isOwner, isObject}
-use Rattle.writer.specs.Tests.{objectRight, deviceRight, entryRight, valueRight}
+use Rattle.writer.specs.Tests.{objectRight, serialMost, deviceRight, entryRight, valueRight}
 
 and-true : (b : Bool) → b && true ≡ b
 and-true true = refl
@@ -52,22 +56,24 @@ and-false false = refl
 least : (n : ℕ) → leb 0 n ≡ true
 least n = le-leb 0 n (omega arith)
 
--- the counts
+-- the edition and the counts
 module _ (counts : Counts) where
-  four : (a b c d : Bool) → a && b && c && d ≡ a && (b && (c && (d && true)))
-  four true true true d = sym (and-true d)
-  four true true false d = refl
-  four true false c d = refl
-  four false b c d = refl
+  five : (a b c d e : Bool) → a && b && c && d && e ≡ a && (b && (c && (d && (e && true))))
+  five true true true true e = sym (and-true e)
+  five true true true false e = refl
+  five true true false d e = refl
+  five true false c d e = refl
+  five false b c d e = refl
 
-  pub counts-same : leb (counts .drivers) mostDrivers && leb (counts .devices) mostDevices
+  pub counts-same : leb 1 (counts .edition) && leb (counts .edition) mostEdition
+      && leb (counts .drivers) mostDrivers && leb (counts .devices) mostDevices
       && leb (counts .objects) mostObjects && leb (counts .values) mostValues
       ≡ inRow countsRow (countsNumbers counts)
   unfolding inRow
   counts-same =
       rw (least (counts .drivers), least (counts .devices), least (counts .objects), least (counts .values))
-      (four (leb (counts .drivers) mostDrivers) (leb (counts .devices) mostDevices)
-      (leb (counts .objects) mostObjects) (leb (counts .values) mostValues))
+      (five (leb 1 (counts .edition) && leb (counts .edition) mostEdition) (leb (counts .drivers) mostDrivers)
+      (leb (counts .devices) mostDevices) (leb (counts .objects) mostObjects) (leb (counts .values) mostValues))
 
   pub counts-within : {b : Bool} → b ≡ inRow countsRow (countsNumbers counts) → b ≡ true → Within counts
   counts-within e h =
@@ -88,15 +94,30 @@ object-same counts kind class owner o =
     go true false c = refl
     go false b c = refl
 
--- a device
-module _ (most : ℕ) (hardcoded : List ℕ) (c : ℕ) where
-  pub device-no : most < getD hardcoded c 0 → deviceRight most hardcoded c ≡ false
-  unfolding deviceRight
-  device-no h = lt-leb (getD hardcoded c 0) most h
+-- the largest serial of an edition
+module _ (edition : ℕ) where
+  pub serial-none : edition < serialEdition → 0 ≡ serialMost edition
+  unfolding serialMost
+  serial-none h = rw (lt-leb serialEdition edition h)
 
-  pub device-yes : getD hardcoded c 0 ≤ most → deviceRight most hardcoded c ≡ true
+  pub serial-some : serialEdition ≤ edition → mostSerial ≡ serialMost edition
+  unfolding serialMost
+  serial-some h = rw (le-leb serialEdition edition h)
+
+-- a device, by its ways out
+module _ (most top : ℕ) (hardcoded serial : List ℕ) (c : ℕ) where
+  pub device-no : most < getD hardcoded c 0 → deviceRight most top hardcoded serial c ≡ false
   unfolding deviceRight
-  device-yes h = le-leb (getD hardcoded c 0) most h
+  device-no h = rw (lt-leb (getD hardcoded c 0) most h)
+
+  module _ (h : getD hardcoded c 0 ≤ most) where
+    pub serial-no : top < getD serial c 0 → deviceRight most top hardcoded serial c ≡ false
+    unfolding deviceRight
+    serial-no l = rw (le-leb (getD hardcoded c 0) most h, lt-leb (getD serial c 0) top l)
+
+    pub device-yes : getD serial c 0 ≤ top → deviceRight most top hardcoded serial c ≡ true
+    unfolding deviceRight
+    device-yes l = rw (le-leb (getD hardcoded c 0) most h, le-leb (getD serial c 0) top l)
 
 -- an entry, by its ways out
 module _ (counts : Counts) (kinds : List ℕ) (o mode w : ℕ) where
@@ -175,12 +196,31 @@ module _ (config : Config) where
   unfolding everyTo objectRight
   objects-same = every-same (config .counts .objects) _ _ (λ o low high. sym (and-true _))
 
-  devices-same : everyTo (config .counts .devices) (deviceRight (config .counts .values) (config .devices .hardcoded))
+  pub device-same : (c : ℕ) → deviceRight (config .counts .values) (serialMost (config .counts .edition))
+      (config .devices .hardcoded) (config .devices .serial) c
+      ≡ all rightRow (deviceRows (config .counts) (config .devices) c)
+  unfolding deviceRight serialMost inRow
+  device-same c =
+      let n = getD (config .devices .hardcoded) c 0 in
+      let s = getD (config .devices .serial) c 0 in
+      rw (least n, and-true)
+      (ap (λ (t : Bool). leb n (config .counts .values) && t) (go s (leb serialEdition (config .counts .edition))))
+    where
+      zero-most : (s : ℕ) → Dec (s ≡ 0) → leb s 0 ≡ eqb s 0
+      zero-most s (yes e) = rw (eq-eqb s 0 e, le-leb s 0 (omega arith))
+      zero-most s (no e) = rw (ne-eqb s 0 e, lt-leb s 0 (omega arith))
+
+      go : (s : ℕ) (t : Bool) → leb s (cond t mostSerial 0)
+          ≡ inRow (cond t (field 0 mostSerial λ serial. done) (absent done)) (s ∷ [])
+      go s true = rw (least s, and-true)
+      go s false = zero-most s (ℕ-discrete s 0) ∙ sym (and-true (eqb s 0))
+
+  devices-same : everyTo (config .counts .devices)
+      (deviceRight (config .counts .values) (serialMost (config .counts .edition)) (config .devices .hardcoded)
+      (config .devices .serial))
       ≡ every (config .counts .devices) (λ c. all rightRow (deviceRows (config .counts) (config .devices) c))
-  unfolding everyTo deviceRight inRow
-  devices-same =
-      every-same (config .counts .devices) _ _
-      (λ c low high. rw (least (getD (config .devices .hardcoded) c 0)) (sym (and-true _ ∙ and-true _)))
+  unfolding everyTo
+  devices-same = every-same (config .counts .devices) _ _ (λ c low high. device-same c)
 
   value-same : (v : ℕ)
       → valueRight (config .counts) (config .objects .kind) (config .values .count) (config .values .entries) v
@@ -218,16 +258,16 @@ module _ (config : Config) where
       unfolding inRanges
       ranges-objects z = rw (← ea, ya, ← objects-same, ← eb, z)
 
-      module _ (yb : b ≡ true) (c : Bool)
+      module _ (yb : b ≡ true) (top : ℕ) (et : top ≡ serialMost (config .counts .edition)) (c : Bool)
           (ec : c ≡ everyTo (config .counts .devices)
-          (deviceRight (config .counts .values) (config .devices .hardcoded))) where
+          (deviceRight (config .counts .values) top (config .devices .hardcoded) (config .devices .serial))) where
         pub ranges-devices : c ≡ false → false ≡ inRanges config
         unfolding inRanges
-        ranges-devices z = rw (← ea, ya, ← objects-same, ← eb, yb, ← devices-same, ← ec, z)
+        ranges-devices z = rw (← ea, ya, ← objects-same, ← eb, yb, ← devices-same, ← et, ← ec, z)
 
         pub ranges-values : c ≡ true → {d : Bool} → d ≡ everyTo (config .counts .values)
             (valueRight (config .counts) (config .objects .kind) (config .values .count) (config .values .entries))
             → d ≡ inRanges config
         unfolding inRanges
         ranges-values yc e =
-            rw (← ea, ya, ← objects-same, ← eb, yb, ← devices-same, ← ec, yc, ← values-same) e
+            rw (← ea, ya, ← objects-same, ← eb, yb, ← devices-same, ← et, ← ec, yc, ← values-same) e

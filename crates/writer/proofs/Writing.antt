@@ -5,7 +5,7 @@ use mathlib.Core.List.{List, _++_}
 use mathlib.Core.Bool.{Bool, true, false}
 use native.Mathlib.Omega.{arith}
 use lib.ListN.{length, drop}
-use Rattle.model.specs.ConfigFile.{restrained, load}
+use Rattle.model.specs.ConfigFile.{load}
 use Rattle.model.specs.ConfigWrite.{fileOf, inRanges, writeQuestion, writeAnswer, writeArea}
 use Rattle.model.specs.Rewriting.{kindUnit, refusedKind, shortKind, numberOfAnswer, coded, rewriteAnswer, rewriteArea}
 use Rattle.model.specs.declared.Config.{Config}
@@ -24,8 +24,8 @@ use Rattle.model.proofs.Rewriting.{
 use Rattle.page.specs.Page.{Placed}
 use Rattle.page.proofs.Laying.{laid-whole}
 use Rattle.sound.specs.Columns.{Within}
-use Rattle.sound.specs.Sound.{pairedBy}
-use Rattle.sound.proofs.Questions.{paired-same}
+use Rattle.sound.specs.Sound.{pairedBy, restrainedBy}
+use Rattle.sound.proofs.Questions.{paired-same, restrained-same}
 use Rattle.writer.proofs.Testing.{counts-within}
 
 -- questions 3, 5 and 6, in this order
@@ -44,14 +44,16 @@ module _ (config : Config) (a : Bool) (ea : a ≡ inRanges config) where
       unfolding writeQuestion
       ask-five z = rw (← ea, ya, ← paired-same config, ← eb, z)
 
-      module _ (yb : b ≡ true) (c : Bool) (ec : c ≡ restrained config) where
+      module _ (yb : b ≡ true) (c : Bool)
+          (ec : c ≡ restrainedBy (config .counts) (config .objects .kind) (config .objects .class)
+          (config .objects .owner) (config .devices .hardcoded) (config .values .count) (config .values .entries)) where
         pub ask-six : c ≡ false → 6 ≡ writeQuestion config
         unfolding writeQuestion
-        ask-six z = rw (← ea, ya, ← paired-same config, ← eb, yb, ← ec, z)
+        ask-six z = rw (← ea, ya, ← paired-same config, ← eb, yb, ← restrained-same config, ← ec, z)
 
         pub ask-none : c ≡ true → 0 ≡ writeQuestion config
         unfolding writeQuestion
-        ask-none z = rw (← ea, ya, ← paired-same config, ← eb, yb, ← ec, z)
+        ask-none z = rw (← ea, ya, ← paired-same config, ← eb, yb, ← restrained-same config, ← ec, z)
 
 -- the answer and the area
 module _ (config : Config) (area : List ℕ) (q : ℕ) (e : q ≡ writeQuestion config) where

@@ -5,26 +5,24 @@ ghost use mathlib.Core.Bool.{true};
 ghost use Prim.Native.Nat.{ℕ, _+_, _*_, _≤_};
 ghost use lib.ListN.{getD};
 ghost use Rattle.model.specs.Number.{mostNumber, mostBytes, bytesOf};
-ghost use Rattle.model.specs.Config.{mostDevices, mostObjects, mostValues, mostEntries};
+ghost use Rattle.model.specs.Config.{mostDevices, mostObjects, mostValues, mostEntries, serialEdition, mostSerial};
 ghost use Rattle.model.specs.ConfigFile.{countsRow};
 ghost use Rattle.model.specs.ConfigWrite.{countsNumbers, rowsFrom, rowBytes};
 ghost use Rattle.model.specs.ConfigWrite.{inRanges, fileOf};
 ghost use Rattle.page.specs.Page.{Placed};
 ghost use Rattle.writer.specs.Bytes.{anyValueBytes, anyFileBytes};
-ghost use Rattle.writer.specs.Bytes.{three, objectBytes, deviceBytes, entryBytesOf, valueBytes};
+ghost use Rattle.writer.specs.Bytes.{three, withSerial, objectBytes, deviceBytes, entryBytesOf, valueBytes};
 use model::Config;
 use model::Counts;
 use model::DEVICE_SLOTS;
 use model::ENTRY_BYTES;
 use model::ENTRY_SLOTS;
 use model::OBJECT_SLOTS;
+use model::SERIAL_EDITION;
 use model::VALUE_SLOTS;
 use model::entry_place;
 use model::wide;
 use varint::encode;
-
-// The edition that is written.
-const EDITION: u8 = 1;
 
 // A number of one byte in memory.
 fn put_number(out: &mut [u8], at: usize, b: u8) -> usize
@@ -52,7 +50,7 @@ fn put_counts(out: &mut [u8], counts: Counts) -> usize
         ⌜ Placed (rowBytes countsRow (countsNumbers counts)) 0 (now (out .entry)) r (now (out .exit)) ⌝ }
     ensures { λ r. ⌜ r ≤ 5 * mostBytes ⌝ }
 {
-    let p = put_three(out, 0, EDITION, counts.drivers, counts.devices);
+    let p = put_three(out, 0, counts.edition, counts.drivers, counts.devices);
     let q = put_number(out, p, counts.objects);
     put_number(out, q, counts.values)
 }
@@ -83,20 +81,43 @@ fn put_objects<'a>(
     p
 }
 
-// The hardcoded value numbers of the devices 1 to n.
-fn put_devices(out: &mut [u8], at: usize, n: u8, hardcoded: &[u8; DEVICE_SLOTS]) -> usize
+// A device: its hardcoded value number and, in an edition that has serials, its serial.
+fn put_device(out: &mut [u8], at: usize, edition: u8, hardcoded: u8, serial: u32) -> usize
+    requires { ⌜ at + anyFileBytes ≤ mostNumber ⌝ }
+    requires { ⌜ (serialEdition ≤ edition → serial ≤ mostSerial) ⌝ }
+    ensures { λ r. ⌜ Placed (withSerial edition hardcoded serial) at (now (out .entry)) r (now (out .exit)) ⌝ }
+    ensures { λ r. ⌜ r ≤ at + 2 * mostBytes ⌝ }
+{
+    let p = put_number(out, at, hardcoded);
+    if edition < SERIAL_EDITION {
+        return p;
+    }
+    encode(out, p, serial as usize)
+}
+
+// The devices 1 to n.
+fn put_devices<'a>(
+    out: &mut [u8],
+    at: usize,
+    edition: u8,
+    n: u8,
+    hardcoded: &'a [u8; DEVICE_SLOTS],
+    serial: &'a [u32; DEVICE_SLOTS],
+) -> usize
     requires { ⌜ n ≤ mostDevices ⌝ }
+    requires { ⌜ ((c : ℕ) → 1 ≤ c → c ≤ n → serialEdition ≤ edition → getD (now serial) c 0 ≤ mostSerial) ⌝ }
     requires { ⌜ at ≤ anyFileBytes ⌝ }
     ensures { λ r.
-        ⌜ Placed (rowsFrom (deviceBytes (now (hardcoded .entry))) n 0) at (now (out .entry)) r (now (out .exit)) ⌝ }
-    ensures { λ r. ⌜ r ≤ at + mostBytes * n ⌝ }
+        ⌜ Placed (rowsFrom (deviceBytes edition (now (hardcoded .entry)) (now (serial .entry))) n 0) at
+        (now (out .entry)) r (now (out .exit)) ⌝ }
+    ensures { λ r. ⌜ r ≤ at + 2 * mostBytes * n ⌝ }
 {
     let end = n as usize;
     let mut i: usize = 0;
     let mut p = at;
     while i < end {
         i += 1;
-        p = put_number(out, p, hardcoded[i]);
+        p = put_device(out, p, edition, hardcoded[i], serial[i]);
     }
     p
 }
@@ -179,7 +200,14 @@ pub(crate) fn put_file(out: &mut [u8], config: Config) -> usize
         &config.objects.class,
         &config.objects.owner,
     );
-    let c = put_devices(out, b, counts.devices, &config.devices.hardcoded);
+    let c = put_devices(
+        out,
+        b,
+        counts.edition,
+        counts.devices,
+        &config.devices.hardcoded,
+        &config.devices.serial,
+    );
     put_values(
         out,
         c,

@@ -8,7 +8,7 @@ ghost use Rattle.model.specs.ConfigFile.{countsRow, entryRow};
 ghost use Rattle.model.specs.ConfigWrite.{countsNumbers, inRow, inRanges};
 ghost use Rattle.sound.specs.Columns.{Within};
 ghost use Rattle.sound.specs.Sound.{everyTo};
-ghost use Rattle.writer.specs.Tests.{objectRight, deviceRight, entryRight, valueRight};
+ghost use Rattle.writer.specs.Tests.{objectRight, serialMost, deviceRight, entryRight, valueRight};
 use config::groups::is_object;
 use config::values::may_store;
 use model::Config;
@@ -18,19 +18,24 @@ use model::ENTRY_BYTES;
 use model::ENTRY_SLOTS;
 use model::MOST_DEVICES;
 use model::MOST_DRIVERS;
+use model::MOST_EDITION;
 use model::MOST_ENTRIES;
 use model::MOST_MODE;
 use model::MOST_OBJECTS;
+use model::MOST_SERIAL;
 use model::MOST_VALUES;
 use model::OBJECT_SLOTS;
+use model::SERIAL_EDITION;
 use model::VALUE_SLOTS;
 use model::entry_place;
 
-// The counts.
+// The edition and the counts.
 fn counts_right(counts: Counts) -> bool
     ensures { λ r. ⌜ r ≡ inRow countsRow (countsNumbers counts) ⌝ }
 {
-    (counts.drivers <= MOST_DRIVERS)
+    (1 <= counts.edition)
+        & (counts.edition <= MOST_EDITION)
+        & (counts.drivers <= MOST_DRIVERS)
         & (counts.devices <= MOST_DEVICES)
         & (counts.objects <= MOST_OBJECTS)
         & (counts.values <= MOST_VALUES)
@@ -59,16 +64,37 @@ fn objects_right<'a>(
     true
 }
 
-// The hardcoded value numbers of the devices 1 to n, of which none is above `most`.
-fn devices_right(n: u8, most: u8, hardcoded: &[u8; DEVICE_SLOTS]) -> bool
+// The largest serial of an edition; in one that has no serials, each is 0.
+fn most_serial(edition: u8) -> u32
+    ensures { λ r. ⌜ r ≡ serialMost edition ⌝ }
+{
+    if edition < SERIAL_EDITION {
+        0
+    } else {
+        MOST_SERIAL
+    }
+}
+
+// The hardcoded value numbers of the devices 1 to n, of which none is above `most`, and their serials, of which none is
+// above `top`.
+fn devices_right<'a>(
+    n: u8,
+    most: u8,
+    top: u32,
+    hardcoded: &'a [u8; DEVICE_SLOTS],
+    serial: &'a [u32; DEVICE_SLOTS],
+) -> bool
     requires { ⌜ n ≤ mostDevices ⌝ }
-    ensures { λ r. ⌜ r ≡ everyTo n (deviceRight most (now (hardcoded .entry))) ⌝ }
+    ensures { λ r. ⌜ r ≡ everyTo n (deviceRight most top (now (hardcoded .entry)) (now (serial .entry))) ⌝ }
 {
     let end = n as usize;
     let mut i: usize = 0;
     while i < end {
         i += 1;
         if most < hardcoded[i] {
+            return false;
+        }
+        if top < serial[i] {
             return false;
         }
     }
@@ -179,7 +205,13 @@ pub(crate) fn in_ranges(config: Config) -> bool
     ) {
         return false;
     }
-    if !devices_right(counts.devices, counts.values, &config.devices.hardcoded) {
+    if !devices_right(
+        counts.devices,
+        counts.values,
+        most_serial(counts.edition),
+        &config.devices.hardcoded,
+        &config.devices.serial,
+    ) {
         return false;
     }
     values_right(

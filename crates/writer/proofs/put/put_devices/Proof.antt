@@ -12,12 +12,12 @@ use Rattle.writer.proofs.put.put_devices.Statement.{statement}
 use Rattle.writer.proofs.put.put_devices.Tie as tie
 
 abbrev Inv-loop : tie.InvT-loop
-Inv-loop out₀ at n hardcoded end i₀ p₀ out i p =
-    (i ≤ n) × (length out ≡ length out₀) × (p ≤ at + mostBytes * i)
-    × Placed (rowsFrom (deviceBytes hardcoded) i 0) at out₀ p out
+Inv-loop out₀ at edition n hardcoded serial end i₀ p₀ out i p =
+    (i ≤ n) × (length out ≡ length out₀) × (p ≤ at + 2 * mostBytes * i)
+    × Placed (rowsFrom (deviceBytes edition hardcoded serial) i 0) at out₀ p out
 
 abbrev μ-loop : tie.MeasureT-loop
-μ-loop out₀ at n hardcoded end i₀ p₀ out i p = n - i
+μ-loop out₀ at edition n hardcoded serial end i₀ p₀ out i p = n - i
 
 loop-holds : tie.Need-loop-holds Inv-loop μ-loop
 loop-holds c = (search needs, search needs, search needs, Putting.rows-start _ _ _)
@@ -25,11 +25,20 @@ loop-holds c = (search needs, search needs, search needs, Putting.rows-start _ _
 add-i : tie.Need-add-i Inv-loop μ-loop
 add-i c = search needs
 
-element-copy-out-put-number : tie.Need-element-copy-out-put-number Inv-loop μ-loop
-element-copy-out-put-number c = search needs
+element-copy-out-put-device : tie.Need-element-copy-out-put-device Inv-loop μ-loop
+element-copy-out-put-device c = search needs
 
-put-number-requires : tie.Need-put-number-requires Inv-loop μ-loop
-put-number-requires c κs = search needs
+mul-put-device : tie.Need-mul-put-device Inv-loop μ-loop
+mul-put-device c = search needs
+
+element-copy-out-put-device-2 : tie.Need-element-copy-out-put-device-2 Inv-loop μ-loop
+element-copy-out-put-device-2 c = search needs
+
+put-device-requires : tie.Need-put-device-requires Inv-loop μ-loop
+put-device-requires c κs = (
+  search needs,
+  c .before .before .before .before .before .before .pre .1 .0 _ (search needs) (search needs),
+)
 
 loop-less : tie.Need-loop-less Inv-loop μ-loop
 loop-less c = search needs
@@ -52,8 +61,10 @@ put-devices-spec =
     μ-loop
     loop-holds
     add-i
-    element-copy-out-put-number
-    put-number-requires
+    element-copy-out-put-device
+    mul-put-device
+    element-copy-out-put-device-2
+    put-device-requires
     loop-less
     loop-again
     same-length

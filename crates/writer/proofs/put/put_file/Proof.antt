@@ -16,15 +16,18 @@ put-objects-requires c κs =
 
 put-devices-requires : tie.Need-put-devices-requires
 put-devices-requires c κs =
-    let o = c .before .before .before .before .before in
+    let o = c .before .before .before .before .before .before in
     let n = o .before .before .before .before .before .before .before .before in
-    let few = Putting.few-of _ (n .before .before .before .before .pre) in
-    (few .devices, omega (arith, few .objects, n .put-counts .ensures .1, o .put-objects .ensures .1))
+    let h = n .before .before .before .before .pre in
+    let few = Putting.few-of _ h in (
+      few .devices,
+      (Putting.serials-few _ h, omega (arith, few .objects, n .put-counts .ensures .1, o .put-objects .ensures .1)),
+    )
 
 put-values-requires : tie.Need-put-values-requires
 put-values-requires c κs =
     let d = c .before .before .before .before .before .before in
-    let o = d .before .before .before .before .before .before in
+    let o = d .before .before .before .before .before .before .before in
     let n = o .before .before .before .before .before .before .before .before in
     let h = n .before .before .before .before .pre in
     let few = Putting.few-of _ h in (
@@ -49,7 +52,7 @@ returns : tie.Need-returns
 returns c =
     let v = c .before .before in
     let d = v .before .before .before .before .before .before .before in
-    let o = d .before .before .before .before .before .before in
+    let o = d .before .before .before .before .before .before .before in
     let n = o .before .before .before .before .before .before .before .before in
     Putting.file-placed _ _ (n .put-counts .ensures .0) (o .put-objects .ensures .0) (d .put-devices .ensures .0)
     (v .put-values .ensures)

@@ -27,27 +27,31 @@ returns-2 c =
     Testing.ranges-objects _ _ (a .ensures) (not-false (a .result) (e .if1 .left)) _ (o .objects-right .ensures)
     (not-true (o .objects-right .result) (c .if2 .taken))
 
+most-serial-requires : tie.Need-most-serial-requires
+most-serial-requires c κs = search needs
+
 devices-right-requires : tie.Need-devices-right-requires
 devices-right-requires c κs =
-    let e = c .before .before .before .before .before .before .before .before in
+    let e = c .before .before .before .before .before .before .before .before .before .before in
     let a = e .before .counts-right in
     Testing.counts-within _ (a .ensures) (not-false (a .result) (e .if1 .left)) .devices
 
 returns-3 : tie.Need-returns-3
 returns-3 c =
     let d = c .before in
-    let f = d .before .before .before in
+    let m = d .before .before .before .before in
+    let f = m .before in
     let o = f .before in
     let e = o .before .before .before .before .before in
     let a = e .before .counts-right in
     Testing.ranges-devices _ _ (a .ensures) (not-false (a .result) (e .if1 .left)) _ (o .objects-right .ensures)
-    (not-false (o .objects-right .result) (f .if2 .left)) _ (d .devices-right .ensures)
+    (not-false (o .objects-right .result) (f .if2 .left)) _ (m .most-serial .ensures) _ (d .devices-right .ensures)
     (not-true (d .devices-right .result) (c .if3 .taken))
 
 values-right-requires : tie.Need-values-right-requires
 values-right-requires c κs =
     let d = c .before .before .before .before .before in
-    let e = d .before .before .before .before .before .before .before .before .before in
+    let e = d .before .before .before .before .before .before .before .before .before .before .before in
     let a = e .before .counts-right in
     Testing.counts-within _ (a .ensures) (not-false (a .result) (e .if1 .left))
 
@@ -55,12 +59,13 @@ returns-4 : tie.Need-returns-4
 returns-4 c =
     let g = c .before .before .before .before .before in
     let d = g .before in
-    let f = d .before .before .before in
+    let m = d .before .before .before .before in
+    let f = m .before in
     let o = f .before in
     let e = o .before .before .before .before .before in
     let a = e .before .counts-right in
     Testing.ranges-values _ _ (a .ensures) (not-false (a .result) (e .if1 .left)) _ (o .objects-right .ensures)
-    (not-false (o .objects-right .result) (f .if2 .left)) _ (d .devices-right .ensures)
+    (not-false (o .objects-right .result) (f .if2 .left)) _ (m .most-serial .ensures) _ (d .devices-right .ensures)
     (not-false (d .devices-right .result) (g .if3 .left)) (c .values-right .ensures)
 
 pub in-ranges-spec : {M : Type 1} → statement M
@@ -71,6 +76,7 @@ in-ranges-spec =
     returns
     objects-right-requires
     returns-2
+    most-serial-requires
     devices-right-requires
     returns-3
     values-right-requires
