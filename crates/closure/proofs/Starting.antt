@@ -51,7 +51,7 @@ use Rattle.closure.proofs.Growing.{right-or}
 module _ (n : Counts) (kind class owner : List ℕ) (b : State) (o : ℕ) where
   -- a configuration with these columns
   abbrev config : Config
-  config = searchConfig (record { hardcoded = [] }) n kind class owner [] []
+  config = searchConfig (record { hardcoded = []; serial = [] }) n kind class owner [] []
 
   abbrev Word : ℕ → Type 0
   Word x = OwnWord kind class owner b o x

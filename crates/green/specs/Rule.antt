@@ -72,7 +72,7 @@ ruledBy m kind hardcoded count entries =
     record {
       counts = m .counts;
       objects = record { kind = kind; class = m .objects .class; owner = m .objects .owner };
-      devices = record { hardcoded = hardcoded };
+      devices = record { hardcoded = hardcoded; serial = m .devices .serial };
       values = record { count = count; entries = entries };
     }
 

@@ -10,7 +10,19 @@ use native.Mathlib.Decide.{decLe}
 use lib.ListN.{length, drop}
 use lib.Dec.{leb, ltb, eqb}
 use borrow.Author.Tests.{le-leb, lt-leb, leb-true, eq-eqb, ne-eqb}
-use Rattle.model.specs.Number.{mostNumber, mostBytes, lead, valueOf, shortest, formed, formAt, headAt, numberAt}
+use Rattle.model.specs.Number.{
+  mostNumber,
+  mostBytes,
+  lead,
+  valueOf,
+  shortest,
+  formedTo,
+  formAt,
+  formTo,
+  headTo,
+  numberAt,
+  numberTo,
+}
 use Rattle.model.specs.Operation.{
   mostCode,
   greenCode,
@@ -27,22 +39,29 @@ use Rattle.model.specs.Operation.{
   number,
   counting,
   countAt,
+  countAtBy,
   only,
   onward,
   andThen,
   turns,
   rawItem,
   payload,
+  payloadBy,
   writing,
+  writingBy,
   copying,
+  copyingBy,
   partitioning,
   activating,
   listing,
+  listingBy,
   deactivating,
   arguments,
   afterCode,
+  afterCodeBy,
   ended,
   readOperation,
+  readOperationBy,
 }
 use Rattle.model.specs.declared.Fault.{Fault}
 use Rattle.model.specs.declared.Fault.the-variants.{Cut, Form}
@@ -84,13 +103,13 @@ small-or true n f h = h
 small-or false n f h = tt
 
 small-form : (at : ℕ) (t : List ℕ) (n : ℕ) → Bounded (formAt at t n)
-unfolding formAt formed
+unfolding formTo formedTo
 small-form at t n =
     small-got (ltb n mostBytes && shortest t n && leb (valueOf t n) mostNumber) (valueOf t n) (at + n + 1) Form
     (λ h. leb-true (valueOf t n) mostNumber (right (ltb n mostBytes && shortest t n) (leb (valueOf t n) mostNumber) h))
 
 small-number : (s : List ℕ) (at : ℕ) → Bounded (numberAt s at)
-unfolding numberAt headAt
+unfolding numberTo headTo
 small-number s at =
     small-or (ltb (lead (drop at s)) (length (drop at s))) (formAt at (drop at s) (lead (drop at s))) Cut
     (small-form at (drop at s) (lead (drop at s)))
@@ -101,20 +120,20 @@ number-small s at v next n h e = subst Bounded (sym h ∙ e) (small-number s at)
 -- a count, from what the number reader answered
 module _ (s : List ℕ) (at : ℕ) (n : Num) (h : n ≡ numberAt s at) where
   pub count-bad : (f : Fault) → n ≡ Bad f → n ≡ countAt s at
-  unfolding countAt counting
+  unfolding countAtBy counting
   count-bad f e = rw (← h, e)
 
   module _ (v next : ℕ) (e : n ≡ Got v next) where
     pub count-low : v < 1 → Bad Form ≡ countAt s at
-    unfolding countAt counting
+    unfolding countAtBy counting
     count-low l = rw (← h, e, lt-leb 1 v l)
 
     pub count-high : 1 ≤ v → mostItems < v → Bad Form ≡ countAt s at
-    unfolding countAt counting
+    unfolding countAtBy counting
     count-high l m = rw (← h, e, le-leb 1 v l, lt-leb v mostItems m)
 
     pub count-got : 1 ≤ v → v ≤ mostItems → Got v next ≡ countAt s at
-    unfolding countAt counting
+    unfolding countAtBy counting
     count-got l m = rw (← h, e, le-leb 1 v l, le-leb v mostItems m)
 
 abbrev pub Few : Num → Type 0
@@ -132,7 +151,7 @@ few-counting (Got v next) =
     few-got (leb 1 v && leb v mostItems) v next (λ h. leb-true v mostItems (right (leb 1 v) (leb v mostItems) h))
 
 pub count-few : (s : List ℕ) (at v next : ℕ) (n : Num) → n ≡ countAt s at → n ≡ Got v next → v ≤ mostItems
-unfolding countAt
+unfolding countAtBy
 count-few s at v next n h e = subst Few (sym h ∙ e) (few-counting (numberAt s at))
 
 -- a loop over n items, at item i: the item goes on, refuses, or all are read
@@ -182,18 +201,18 @@ each-at P (suc n) lo c h k e =
 module _ (s : List ℕ) (i object at : ℕ) (op : Operation) where
   pub payload-raw : (form : ℕ) {r : Parse} → form ≡ 1 → r ≡ rawItem s i object at op
       → r ≡ payload (eqb form 0) (eqb form 1) s i object at op
-  unfolding payload
+  unfolding payloadBy
   payload-raw form e p = rw e p
 
   pub payload-none : (form : ℕ) {r : Parse} → (form ≡ 1 → ⊥) → (form ≡ 0 → ⊥) → r ≡ refused
       → r ≡ payload (eqb form 0) (eqb form 1) s i object at op
-  unfolding payload
+  unfolding payloadBy
   payload-none form e f p = rw (ne-eqb form 0 f, ne-eqb form 1 e) p
 
   pub payload-number : (form : ℕ) {r : Parse} → form ≡ 0
       → r ≡ number s at (λ v next. read next (withItem op i object v 0))
       → r ≡ payload (eqb form 0) (eqb form 1) s i object at op
-  unfolding payload
+  unfolding payloadBy
   payload-number form e p = rw e p
 
 -- what follows a code: by the family and the actor of each code of an arm
@@ -203,15 +222,15 @@ module _ (s : List ℕ) (code at : ℕ) where
 
   arm : (f : ℕ → List ℕ → ℕ → Parse) (n lo : ℕ) → lo ≤ code → code < lo + n → Throughout (As f) lo n
       → f code s at ≡ afterCode s code at
-  unfolding afterCode
+  unfolding afterCodeBy
   arm f n lo h k e = each-at (As f) n lo code h k e
 
   pub write-arm : {r : Parse} → 1 ≤ code → code ≤ 2 → r ≡ counted Item code s at → r ≡ afterCode s code at
-  unfolding only counted element beforeElements writing
+  unfolding only counted element beforeElements writingBy
   write-arm h k p = p ∙ arm writing 2 1 h (omega arith) (refl, (refl, tt))
 
   pub copy-arm : {r : Parse} → 3 ≤ code → code ≤ 4 → r ≡ counted Pair code s at → r ≡ afterCode s code at
-  unfolding only counted element beforeElements copying
+  unfolding only counted element beforeElements copyingBy
   copy-arm h k p = p ∙ arm copying 2 3 h (omega arith) (refl, (refl, tt))
 
   pub green-arm : {r : Parse} → code ≡ greenCode → r ≡ partitioning code s at → r ≡ afterCode s code at
@@ -227,7 +246,7 @@ module _ (s : List ℕ) (code at : ℕ) where
   activate-arm h k p = p ∙ arm activating 2 7 h (omega arith) (refl, (refl, tt))
 
   pub list-arm : {r : Parse} → (code ≡ 9) ⊎ (code ≡ 12) → r ≡ counted Object code s at → r ≡ afterCode s code at
-  unfolding only counted element beforeElements listing
+  unfolding only counted element beforeElements listingBy
   list-arm h p =
       p ∙ ⊎-elim (λ (e : code ≡ 9). arm listing 1 9 (omega arith) (omega arith) (refl, tt))
       (λ (e : code ≡ 12). arm listing 1 12 (omega arith) (omega arith) (refl, tt)) h
@@ -249,11 +268,11 @@ module _ (s : List ℕ) (code at : ℕ) where
   unlock-arm h p = p ∙ arm deactivating 1 unlockCode (omega arith) (omega arith) (refl, tt)
 
   pub zero-arm : {r : Parse} → code < 1 → r ≡ refused → r ≡ afterCode s code at
-  unfolding afterCode only
+  unfolding afterCodeBy only
   zero-arm h p = rw (p, lt-leb 1 code h)
 
   pub other-arm : {r : Parse} → mostCode < code → r ≡ refused → r ≡ afterCode s code at
-  unfolding afterCode only
+  unfolding afterCodeBy only
   other-arm h p = rw (p, le-leb 1 code (omega arith), lt-leb code mostCode h)
 
   -- behind the last range no code but those with an arm of their own is known
@@ -270,21 +289,21 @@ Refuses r = (r .answer ≡ 10) × (r .operation ≡ unread)
 
 module _ (s : List ℕ) {f : Num} (h : f ≡ numberAt s 0) {r : Parsed} where
   pub whole-bad : {q : Fault} → f ≡ Bad q → Refuses r → AnswersAs r s
-  unfolding readOperation taken refused ended
+  unfolding readOperationBy taken refused ended
   whole-bad e p = rw (← h, e) p
 
   module _ {code at : ℕ} {parse : Parse} (e : f ≡ Got code at) (g : parse ≡ afterCode s code at) where
     pub whole-stop : (parse .answer ≡ 0 → ⊥) → Refuses r → AnswersAs r s
-    unfolding readOperation taken ended
+    unfolding readOperationBy taken ended
     whole-stop z p = rw (← h, e) (rw (← g, ne-eqb (parse .answer) 0 z) p)
 
     pub whole-left : parse .answer ≡ 0 → (parse .at ≡ length s → ⊥) → Refuses r → AnswersAs r s
-    unfolding readOperation taken ended
+    unfolding readOperationBy taken ended
     whole-left z l p = rw (← h, e) (rw (← g, z, ne-eqb (parse .at) (length s) l) p)
 
     pub whole-read : parse .answer ≡ 0 → parse .at ≡ length s → r .answer ≡ 0 → r .operation ≡ parse .operation
         → AnswersAs r s
-    unfolding readOperation taken ended
+    unfolding readOperationBy taken ended
     whole-read z l p q = rw (← h, e) (rw (← g, z, eq-eqb (parse .at) (length s) l) (p, q))
 
 -- a code's family and actor

@@ -27,13 +27,13 @@ withContent b n c = Columns.withContent b (put (b .content) n c)
 unfoldable pub withLock : State → ℕ → ℕ → State
 withLock b c v = Columns.withLock b (put (b .lock) c v)
 
--- the configuration with these counts and columns, and no values
+-- the configuration with these counts and columns, and no values; edition and serials are not looked at
 unfoldable pub objectsLent : ℕ → ℕ → List ℕ → List ℕ → List ℕ → List ℕ → Config
 objectsLent objects values kind class owner hardcoded =
     record {
-      counts = record { drivers = 0; devices = 0; objects = objects; values = values };
+      counts = record { edition = 0; drivers = 0; devices = 0; objects = objects; values = values };
       objects = record { kind = kind; class = class; owner = owner };
-      devices = record { hardcoded = hardcoded };
+      devices = record { hardcoded = hardcoded; serial = [] };
       values = record { count = []; entries = [] };
     }
 
@@ -43,6 +43,6 @@ lent counts kind class owner hardcoded =
     record {
       counts = counts;
       objects = record { kind = kind; class = class; owner = owner };
-      devices = record { hardcoded = hardcoded };
+      devices = record { hardcoded = hardcoded; serial = [] };
       values = record { count = []; entries = [] };
     }

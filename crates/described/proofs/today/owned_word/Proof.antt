@@ -21,7 +21,8 @@ returns c =
     let a = c .before .before .before in
     owned-none (now (a .args .kind)) (now (a .args .class)) (now (a .args .owner))
     (view (a .args .room) (now (a .args .area))) (a .args .device) (a .args .o)
-    (λ e. c .if1 .taken (owned-kind (searchConfig (record { hardcoded = [] }) (a .args .counts) (now (a .args .kind))
+    (λ e. c .if1 .taken (owned-kind (searchConfig (record { hardcoded = []; serial = [] }) (a .args .counts)
+    (now (a .args .kind))
     (now (a .args .class)) (now (a .args .owner)) [] []) (view (a .args .room) (now (a .args .area)))
     (a .args .device) (a .args .o) e))
 

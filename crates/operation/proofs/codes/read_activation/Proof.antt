@@ -1,7 +1,7 @@
 -- `operation::codes::read_activation` meets its contract: subject and partition go on or are refused. Assumes
 -- nothing.
 use borrow.Author.Needs.{needs}
-use Rattle.model.specs.Operation.{activating}
+use Rattle.model.specs.Operation.{activatingBy}
 use Rattle.operation.proofs.Parsing
 use Rattle.operation.proofs.codes.read_activation.Statement.{statement}
 use Rattle.operation.proofs.codes.read_activation.Tie as tie
@@ -19,7 +19,7 @@ stop-requires : tie.Need-stop-requires
 stop-requires c κs = search needs
 
 returns : tie.Need-returns
-unfolding activating
+unfolding activatingBy
 returns c =
     Parsing.on-stop _ _ (c .before .before .before .number-at .ensures) (c .before .enum-told .given .1)
     (c .stop .ensures)
@@ -37,7 +37,7 @@ stop-requires-2 : tie.Need-stop-requires-2
 stop-requires-2 c κs = search needs
 
 returns-2 : tie.Need-returns-2
-unfolding activating
+unfolding activatingBy
 returns-2 c =
     Parsing.on-go _ _ (c .before .before .before .before .before .before .before .number-at .ensures)
     (c .before .before .before .before .before .f .given .1)
@@ -51,7 +51,7 @@ go-on-requires : tie.Need-go-on-requires
 go-on-requires c κs = search needs
 
 returns-3 : tie.Need-returns-3
-unfolding activating
+unfolding activatingBy
 returns-3 c =
     Parsing.on-go _ _ (c .before .before .before .before .before .before .before .before .before .number-at .ensures)
     (c .before .before .before .before .before .before .before .f .given .1)

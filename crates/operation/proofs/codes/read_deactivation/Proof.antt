@@ -1,6 +1,6 @@
 -- `operation::codes::read_deactivation` meets its contract: the subject goes on or is refused. Assumes nothing.
 use borrow.Author.Needs.{needs}
-use Rattle.model.specs.Operation.{deactivating}
+use Rattle.model.specs.Operation.{deactivatingBy}
 use Rattle.operation.proofs.Parsing
 use Rattle.operation.proofs.codes.read_deactivation.Statement.{statement}
 use Rattle.operation.proofs.codes.read_deactivation.Tie as tie
@@ -18,7 +18,7 @@ stop-requires : tie.Need-stop-requires
 stop-requires c κs = search needs
 
 returns : tie.Need-returns
-unfolding deactivating
+unfolding deactivatingBy
 returns c =
     Parsing.on-stop _ _ (c .before .before .before .number-at .ensures) (c .before .enum-told .given .1)
     (c .stop .ensures)
@@ -30,7 +30,7 @@ go-on-requires : tie.Need-go-on-requires
 go-on-requires c κs = search needs
 
 returns-2 : tie.Need-returns-2
-unfolding deactivating
+unfolding deactivatingBy
 returns-2 c =
     Parsing.on-go _ _ (c .before .before .before .before .before .number-at .ensures)
     (c .before .before .before .f .given .1)

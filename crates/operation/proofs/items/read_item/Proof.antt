@@ -1,7 +1,7 @@
 -- `operation::items::read_item` meets its contract: object and form go on or are refused, and the form says what
 -- follows. Assumes nothing.
 use borrow.Author.Needs.{needs}
-use Rattle.model.specs.Operation.{item}
+use Rattle.model.specs.Operation.{itemBy}
 use Rattle.operation.proofs.Parsing
 use Rattle.operation.proofs.items.read_item.Statement.{statement}
 use Rattle.operation.proofs.items.read_item.Tie as tie
@@ -19,7 +19,7 @@ stop-requires : tie.Need-stop-requires
 stop-requires c κs = search needs
 
 returns : tie.Need-returns
-unfolding item
+unfolding itemBy
 returns c =
     Parsing.on-stop _ _ (c .before .before .before .number-at .ensures) (c .before .enum-told .given .1)
     (c .stop .ensures)
@@ -37,7 +37,7 @@ stop-requires-2 : tie.Need-stop-requires-2
 stop-requires-2 c κs = search needs
 
 returns-2 : tie.Need-returns-2
-unfolding item
+unfolding itemBy
 returns-2 c =
     Parsing.on-go _ _ (c .before .before .before .before .before .before .before .number-at .ensures)
     (c .before .before .before .before .before .f .given .1)
@@ -48,7 +48,7 @@ read-raw-requires : tie.Need-read-raw-requires
 read-raw-requires c κs = (search needs, search Parsing.number-small)
 
 returns-3 : tie.Need-returns-3
-unfolding item
+unfolding itemBy
 returns-3 c =
     Parsing.on-go _ _ (c .before .before .before .before .before .before .before .before .before .number-at .ensures)
     (c .before .before .before .before .before .before .before .f .given .1)
@@ -60,7 +60,7 @@ stop-requires-3 : tie.Need-stop-requires-3
 stop-requires-3 c κs = search needs
 
 returns-4 : tie.Need-returns-4
-unfolding item
+unfolding itemBy
 returns-4 c =
     Parsing.on-go _ _
     (c .before .before .before .before .before .before .before .before .before .before .number-at .ensures)
@@ -82,7 +82,7 @@ stop-requires-4 : tie.Need-stop-requires-4
 stop-requires-4 c κs = search needs
 
 returns-5 : tie.Need-returns-5
-unfolding item
+unfolding itemBy
 returns-5 c =
     Parsing.on-go _ _
     (c .before .before .before .before .before .before .before .before .before .before .before .before .before
@@ -101,7 +101,7 @@ go-on-requires : tie.Need-go-on-requires
 go-on-requires c κs = search needs
 
 returns-6 : tie.Need-returns-6
-unfolding item
+unfolding itemBy
 returns-6 c =
     Parsing.on-go _ _
     (c .before .before .before .before .before .before .before .before .before .before .before .before .before .before

@@ -1,7 +1,7 @@
 -- `operation::items::read_object` meets its contract: the number goes on or is refused. Assumes nothing.
 use native.Mathlib.Omega.{arith}
 use borrow.Author.Needs.{needs}
-use Rattle.model.specs.Operation.{object}
+use Rattle.model.specs.Operation.{objectBy}
 use Rattle.operation.proofs.Parsing
 use Rattle.operation.proofs.items.read_object.Statement.{statement}
 use Rattle.operation.proofs.items.read_object.Tie as tie
@@ -19,7 +19,7 @@ stop-requires : tie.Need-stop-requires
 stop-requires c κs = search needs
 
 returns : tie.Need-returns
-unfolding object
+unfolding objectBy
 returns c =
     Parsing.on-stop _ _ (c .before .before .before .number-at .ensures) (c .before .enum-told .given .1)
     (c .stop .ensures)
@@ -31,7 +31,7 @@ go-on-requires : tie.Need-go-on-requires
 go-on-requires c κs = search needs
 
 returns-2 : tie.Need-returns-2
-unfolding object
+unfolding objectBy
 returns-2 c =
     Parsing.on-go _ _ (c .before .before .before .before .before .number-at .ensures)
     (c .before .before .before .f .given .1)

@@ -1,6 +1,6 @@
 -- `operation::items::read_pair` meets its contract: each of two numbers goes on or is refused. Assumes nothing.
 use borrow.Author.Needs.{needs}
-use Rattle.model.specs.Operation.{pair}
+use Rattle.model.specs.Operation.{pairBy}
 use Rattle.operation.proofs.Parsing
 use Rattle.operation.proofs.items.read_pair.Statement.{statement}
 use Rattle.operation.proofs.items.read_pair.Tie as tie
@@ -18,7 +18,7 @@ stop-requires : tie.Need-stop-requires
 stop-requires c κs = search needs
 
 returns : tie.Need-returns
-unfolding pair
+unfolding pairBy
 returns c =
     Parsing.on-stop _ _ (c .before .before .before .number-at .ensures) (c .before .enum-told .given .1)
     (c .stop .ensures)
@@ -36,7 +36,7 @@ stop-requires-2 : tie.Need-stop-requires-2
 stop-requires-2 c κs = search needs
 
 returns-2 : tie.Need-returns-2
-unfolding pair
+unfolding pairBy
 returns-2 c =
     Parsing.on-go _ _ (c .before .before .before .before .before .before .before .number-at .ensures)
     (c .before .before .before .before .before .f .given .1)
@@ -50,7 +50,7 @@ go-on-requires : tie.Need-go-on-requires
 go-on-requires c κs = search needs
 
 returns-3 : tie.Need-returns-3
-unfolding pair
+unfolding pairBy
 returns-3 c =
     Parsing.on-go _ _ (c .before .before .before .before .before .before .before .before .before .number-at .ensures)
     (c .before .before .before .before .before .before .before .f .given .1)
