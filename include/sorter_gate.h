@@ -26,10 +26,10 @@ extern "C" {
 /* The version of this header and of the archive beside it; the number is for comparing, a later version's is larger. */
 /* begin version: made by tests/tables from tables/release.ini */
 #define SORTER_GATE_VERSION_MAJOR 0
-#define SORTER_GATE_VERSION_MINOR 2
+#define SORTER_GATE_VERSION_MINOR 3
 #define SORTER_GATE_VERSION_PATCH 0
-#define SORTER_GATE_VERSION_NUMBER 2000
-#define SORTER_GATE_VERSION "0.2.0"
+#define SORTER_GATE_VERSION_NUMBER 3000
+#define SORTER_GATE_VERSION "0.3.0"
 /* end version */
 
 /* begin sizes: made by tests/tables from tables/numbers.ini */
@@ -42,7 +42,7 @@ extern "C" {
 /* The least length of an answer area. */
 #define SORTER_GATE_ANSWER_BYTES 128
 /* The length of the longest line file that can be accepted; refuse a longer one before you call. */
-#define SORTER_GATE_LONGEST_LINE 1773
+#define SORTER_GATE_LONGEST_LINE 1821
 /* The length of the longest record that can be accepted; refuse a longer one before you call. */
 #define SORTER_GATE_LONGEST_RECORD 155
 /* end sizes */
@@ -73,7 +73,7 @@ enum sorter_gate_code {
 enum sorter_gate_answer {
     SORTER_GATE_ACCEPTED = 0,
     SORTER_GATE_NUMBER_CUT = 1,      /* line file: a number's last byte is missing */
-    SORTER_GATE_NUMBER_FORM = 2,     /* line file: a number of over three bytes, not the shortest, or above 65,535 */
+    SORTER_GATE_NUMBER_FORM = 2,     /* line file: a number of over three bytes, or not in the shortest form */
     SORTER_GATE_FIELD_RANGE = 3,     /* line file: a number is out of its field's range */
     SORTER_GATE_LEFT_OVER = 4,       /* line file: bytes are left over */
     SORTER_GATE_HARDWIRED_OWNER = 5, /* line file: a card has not just one kind 4 object, or kind 4 has no card */

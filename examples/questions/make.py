@@ -7,8 +7,8 @@
 All are over file L of document 01: two drivers, two cards, six objects, five values. Object 1 is card 1's hard-wired
 descriptor (value 1: read object 2), object 2 its transfer descriptor; 3 and 4 are card 2's (value 2: read object 4); 5
 is external data, 6 is data of driver 1. Value 3 writes object 5; value 4 puts value 3 into object 4; value 5 puts value
-4 into object 2. Every number of these examples is below 128, so that a number is one byte. Examples 1 to 6 and 21 have
-a line of their own: L with a change.
+4 into object 2. Every number of these examples is below 128, so that a number is one byte, but for two that are written
+out below. Examples 1 to 6 and 21 have a line of their own: L with a change.
 """
 import pathlib
 import sys
@@ -43,6 +43,8 @@ def fresh(length=STATE_BYTES):
     return area
 
 
+# 70,000 in three bytes, and 2,097,152, the least number that has four.
+LARGE, FOUR_BYTES = [240, 162, 4], [128, 128, 128, 1]
 # File L with a ring: value 1 reads and writes object 2, card 1's own, and puts value 3 there.
 RING = line(values=[[1, 2, 3, 3]] + VALUES[1:])
 CREATE_1, CREATE_2, DESTROY_1, GREEN_1, LOCK_1 = [5, 1], [5, 2], [6, 1], [13, 1], [14, 1]
@@ -50,8 +52,8 @@ DRIVER_1_IN, CARD_1_IN, CARD_2_IN, OBJECT_5_IN = [7, 1, 1], [8, 1, 1], [8, 2, 2]
 READY = [CREATE_1, CREATE_2, DRIVER_1_IN, CARD_1_IN, CARD_2_IN, OBJECT_5_IN]
 LINES = {
     1: (L[:-1], "file L without its last byte: the last number is missing"),
-    2: (bytes([129, 0]) + L[1:], "file L with edition 1 in two bytes, 129 0, where one is enough"),
-    3: (line(objects=OBJECTS[:5] + [[3, 1, 3]]), "file L, but the owner of object 6 is driver 3, and there are two"),
+    2: (bytes([1, *FOUR_BYTES]) + L[2:], "file L, but its count of drivers is 2,097,152, which takes four bytes"),
+    3: (bytes([3]) + L[1:], "file L, but of edition 3, and there are 1 and 2"),
     4: (L + bytes([0]), "file L and one byte more"),
     5: (line(objects=OBJECTS[:2] + [[3, 2, 2]] + OBJECTS[3:]), "file L, but object 3 is data: card 2 has no hard-wired "
         "descriptor"),
@@ -65,8 +67,8 @@ CALLS = {
 }
 CALLS[9][0][FIRST_CONTENT] = 2
 SESSIONS = {
-    10: ([CREATE_1, [7, 1]], "driver 1 is brought in, and the record ends before the partition"),
-    11: ([CREATE_1, [7, 3, 1]], "driver 3 is brought in, and there are two"),
+    10: ([CREATE_1, DRIVER_1_IN, [1, 1, *LARGE, 2, 0, 3]], "driver 1 writes 70,000 items, and a count is at most 8"),
+    11: ([CREATE_1, [5, *LARGE]], "partition 70,000 is created, and the last one is 63"),
     12: ([CREATE_1, [9, 1, 2, 5, 5]], "object 5 is listed twice"),
     13: ([CREATE_1, DRIVER_1_IN, CARD_1_IN, [1, 1, 1, 1, 0, 0]], "driver 1 writes object 1, a hard-wired descriptor"),
     14: ([CREATE_1, DESTROY_1, CREATE_1], "partition 1 is created again after it was destroyed"),

@@ -35,7 +35,9 @@ LIMITS = {
     "bytes of line.bin": 4096,
     "bytes of session.bin": 32768,
     "partitions": 63,
-    "a number": 65535,
+    "a number": 2097151,
+    "edition": 2,
+    "a serial": 2097151,
 }
 # end limits
 

@@ -42,7 +42,7 @@ pub const LOCK_BYTES: usize = 16;
 pub const ANSWER_BYTES: usize = 128;
 
 /// The length of the longest line file that can be accepted; refuse a longer one before you call.
-pub const LONGEST_LINE: usize = 1773;
+pub const LONGEST_LINE: usize = 1821;
 
 /// The length of the longest record that can be accepted; refuse a longer one before you call.
 pub const LONGEST_RECORD: usize = 155;

@@ -7,7 +7,7 @@ use core::fmt::{self, Display, Formatter};
 // begin texts: made by tests/tables from tables/questions.ini
 const TEXTS: [&str; 23] = [
     "line file: a number's last byte is missing",
-    "line file: a number has more than three bytes, is not in the shortest form, or is above 65,535",
+    "line file: a number has more than three bytes, or is not in the shortest form",
     "line file: a number is out of its field's range",
     "line file: bytes are left over",
     "line file: a card has not exactly one kind 4 object, or a kind 4 object has no card as owner",
