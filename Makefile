@@ -17,7 +17,7 @@ override PREFIX := $(call parted,$(abspath $(call joined,$(PREFIX))))
 LIBDIR ?= $(PREFIX)/lib
 INCLUDEDIR ?= $(PREFIX)/include
 DESTDIR ?=
-VERSION := 0.2.0
+VERSION := 0.3.0
 
 library := target/staticlib/libgate.a
 sources := crates.txt $(shell find crates -name '*.rt' -o -name '*.antt')
