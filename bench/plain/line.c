@@ -28,7 +28,7 @@ enum reading read_long(const uint8_t **at, const uint8_t *end, uint32_t *number)
         *number |= (uint32_t)((*at)[i] & 127) << (7 * i);
     }
     *at = last + 1;
-    return *number > 65535 ? BAD : GOT;
+    return GOT;
 }
 
 // A file's end, and the first question of 1 to 3 that is answered with no.
@@ -37,24 +37,27 @@ struct file {
     uint32_t refusal;
 };
 
-// Stores the number at `at`, of whatever length. The place behind it, or NULL if a question is answered with no.
-static const uint8_t *long_field(const uint8_t *at, struct file *file, uint32_t low, uint32_t high, uint8_t *to) {
-    uint32_t number;
-    switch (read_long(&at, file->end, &number)) {
-    case CUT:
-        file->refusal = 1;
-        return NULL;
-    case BAD:
-        file->refusal = 2;
-        return NULL;
-    default:
-        if (number < low || number > high) {
-            file->refusal = 3;
-            return NULL;
-        }
-        *to = (uint8_t)number;
+// Stores the number at `at`, of whatever length and size. The place behind it, or NULL if question 1 or 2 is answered
+// with no.
+static const uint8_t *any_number(const uint8_t *at, struct file *file, uint32_t *to) {
+    enum reading reading = read_long(&at, file->end, to);
+    if (reading == GOT) {
         return at;
     }
+    file->refusal = reading == CUT ? 1 : 2;
+    return NULL;
+}
+
+// The same with question 3, for a number that is a byte of a column.
+static const uint8_t *long_field(const uint8_t *at, struct file *file, uint32_t low, uint32_t high, uint8_t *to) {
+    uint32_t number;
+    at = any_number(at, file, &number);
+    if (at && (number < low || number > high)) {
+        file->refusal = 3;
+        return NULL;
+    }
+    *to = at ? (uint8_t)number : 0;
+    return at;
 }
 
 // The same for a number that has nearly always one byte; NULL stays NULL.
@@ -67,8 +70,7 @@ static inline const uint8_t *field(const uint8_t *at, struct file *file, uint32_
 }
 
 static const uint8_t *read_counts(struct line *line, const uint8_t *at, struct file *file) {
-    uint8_t edition;
-    at = field(at, file, 1, 1, &edition);
+    at = field(at, file, 1, MOST_EDITION, &line->edition);
     at = field(at, file, 0, MOST_DRIVERS, &line->drivers);
     at = field(at, file, 0, MOST_CARDS, &line->cards);
     at = field(at, file, 0, MOST_OBJECTS, &line->objects);
@@ -125,10 +127,16 @@ static const uint8_t *read_objects(struct line *line, const uint8_t *at, struct 
     return at;
 }
 
+// The cards' value numbers, each with its serial behind it where the edition has serials. Three bytes hold no larger
+// number than a serial may be.
 static const uint8_t *read_hardwired(struct line *line, const uint8_t *at, struct file *file) {
     const uint32_t cards = line->cards, values = line->values;
+    const bool serials = line->edition >= WITH_SERIALS;
     for (uint32_t card = 1; at && card <= cards; card++) {
         at = field(at, file, 0, values, &line->hardwired[card]);
+        if (at && serials) {
+            at = any_number(at, file, &line->serial[card]);
+        }
     }
     return at;
 }

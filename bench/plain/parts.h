@@ -8,6 +8,8 @@
 #include <string.h>
 
 enum { MOST_DRIVERS = 16, MOST_CARDS = 16, MOST_OBJECTS = 192, MOST_VALUES = 47, MOST_ENTRIES = 6, MOST_ITEMS = 8 };
+// The latest edition of the line file; cards have serials from it on.
+enum { MOST_EDITION = 2, WITH_SERIALS = 2 };
 enum { PARTITIONS = 64, CONTENT = 16, RECORD = 1 + CONTENT, ANSWER_BYTES = MOST_ITEMS * CONTENT };
 enum { DRIVERS_AT = PARTITIONS, CARDS_AT = DRIVERS_AT + MOST_DRIVERS, RECORDS_AT = CARDS_AT + MOST_CARDS };
 // A line of no more objects has a state area with as many records as this; any other one with as many as can be.
@@ -46,10 +48,11 @@ struct entry {
 // is the same for all. What has the number n is at place n; at 0 there is nothing, but for value 0, which has no
 // entries.
 struct line {
-    uint8_t drivers, cards, objects, values;
+    uint8_t edition, drivers, cards, objects, values;
     uint8_t kind[MOST_OBJECTS + 1], class[MOST_OBJECTS + 1], owner[MOST_OBJECTS + 1];
     uint8_t hardwired[MOST_CARDS + 1];  // the cards' value numbers
     uint8_t descriptor[MOST_CARDS + 1]; // each card's object of kind 4
+    uint32_t serial[MOST_CARDS + 1];    // the cards' serials, if the edition has them
     uint8_t count[MOST_VALUES + 1];
     struct entry entries[MOST_VALUES + 1][MOST_ENTRIES];
 };
@@ -115,7 +118,8 @@ struct operation {
 // What stands above the number in an answer that has a kind.
 static const uint64_t REFUSED = UINT64_C(1) << 32, SHORT = UINT64_C(2) << 32;
 
-// A number in up to three bytes, the shortest form, at most 65,535 (question 2); `*at` is moved behind it.
+// A number in up to three bytes, the shortest form (question 2), which are as many bits as the largest serial has;
+// `*at` is moved behind it.
 enum reading { GOT, CUT, BAD };
 enum reading read_long(const uint8_t **at, const uint8_t *end, uint32_t *number);
 

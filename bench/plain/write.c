@@ -3,8 +3,8 @@
 #include "parts.h"
 #include "plain.h"
 
-// The columns hold numbers below 256, which need one byte or two.
-enum { MOST_FILE = 2 * (5 + 3 * MOST_OBJECTS + MOST_CARDS + MOST_VALUES * (1 + 3 * MOST_ENTRIES)) };
+// The columns hold numbers below 256, which need one byte or two, but for the serials, which need up to three.
+enum { MOST_FILE = 2 * (5 + 3 * MOST_OBJECTS + MOST_CARDS + MOST_VALUES * (1 + 3 * MOST_ENTRIES)) + 3 * MOST_CARDS };
 
 static inline uint8_t *put(uint8_t *to, uint32_t number) {
     if (number < 128) {
@@ -14,6 +14,14 @@ static inline uint8_t *put(uint8_t *to, uint32_t number) {
     to[0] = (uint8_t)(number | 128);
     to[1] = (uint8_t)(number >> 7);
     return to + 2;
+}
+
+static uint8_t *put_serial(uint8_t *to, uint32_t serial) {
+    for (; serial >= 128; serial >>= 7) {
+        *to++ = (uint8_t)(serial | 128);
+    }
+    *to = (uint8_t)serial;
+    return to + 1;
 }
 
 static uint8_t *put_objects(const struct line *line, uint8_t *to) {
@@ -39,7 +47,7 @@ static uint8_t *put_values(const struct line *line, uint8_t *to) {
 }
 
 static size_t put_line(const struct line *line, uint8_t *file) {
-    const uint8_t counts[] = {1, line->drivers, line->cards, line->objects, line->values};
+    const uint8_t counts[] = {line->edition, line->drivers, line->cards, line->objects, line->values};
     uint8_t *to = file;
     for (size_t i = 0; i < sizeof counts; i++) {
         to = put(to, counts[i]);
@@ -47,6 +55,7 @@ static size_t put_line(const struct line *line, uint8_t *file) {
     to = put_objects(line, to);
     for (uint32_t card = 1; card <= line->cards; card++) {
         to = put(to, line->hardwired[card]);
+        to = line->edition >= WITH_SERIALS ? put_serial(to, line->serial[card]) : to;
     }
     return (size_t)(put_values(line, to) - file);
 }
