@@ -15,6 +15,7 @@
 
 #include "../tests/effect.h"
 #include "../tests/inputs.h"
+#include "../tests/known.h"
 #include "linked.h"
 #include "plain/plain.h"
 #include "sorter_gate.h"

@@ -32,7 +32,7 @@ def program(folder):
 def agree(folder):
     """Ends the run if the plain gate and the library differ."""
     made = build(f"{folder}/agree", "gate", "-Iinclude", "-Ibench", "bench/agree.c", "bench/linked.c",
-                 "tests/inputs.c", "tests/effect.c", *PLAIN)
+                 *(f"tests/{name}.c" for name in ("inputs", "known", "line", "effect")), *PLAIN)
     print(run(made, AGREEING, 1).stdout, end="")
 
 

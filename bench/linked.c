@@ -68,7 +68,7 @@ size_t linked_line(uint8_t *to, int wide) {
     unsigned cards = 1 + (unsigned)below(4);
     unsigned objects = wide ? wide_objects() : 2 * cards + 1 + (unsigned)below(12);
     unsigned values = cards + 2 + (unsigned)below(wide ? 40 : 12);
-    to[0] = 1;
+    to[EDITION_AT] = FIRST_EDITION;
     to[DRIVERS_AT] = (uint8_t)(1 + below(3));
     to[DEVICES_AT] = (uint8_t)cards;
     uint8_t *at = put_number(put_number(to + OBJECTS_AT, objects), values);
@@ -80,7 +80,7 @@ size_t linked_line(uint8_t *to, int wide) {
     for (unsigned value = 1; value <= values; value++) {
         at = put_value(to, &making, value, at);
     }
-    return (size_t)(at - to);
+    return in_some_edition(to, (size_t)(at - to));
 }
 
 // 1 nearly always, always, or any of 0 to 3.
@@ -98,7 +98,6 @@ static uint8_t owner_partition(const uint8_t *declared, const uint8_t *owners, s
 void random_state(const uint8_t *line, uint8_t *state) {
     size_t spread = below(3);
     uint8_t *owners = state + MOST_PARTITION + 1, *at = owners + 2 * MOST_OWNERS;
-    const uint8_t *hardwired = object_in_line(line, objects_of(line) + 1u) - 1;
     memset(state, 0, state_bytes_of(line));
     for (size_t partition = 1; partition <= MOST_PARTITION; partition++) {
         state[partition] = (uint8_t)(partition > 3 ? below(GREEN + 1) : below(2) ? GREEN : EXISTING);
@@ -115,7 +114,7 @@ void random_state(const uint8_t *line, uint8_t *state) {
         const uint8_t *declared = object_in_line(line, object);
         at[0] = owner_partition(declared, owners, spread);
         if (declared[0] == HARDCODED) {
-            at[1] = hardwired[declared[2]];
+            at[1] = *device_in_line(line, declared[2]);
         } else if (declared[0] == TRANSFER) {
             at[1] = (uint8_t)below(values_of(line) + 1u);
         } else {
@@ -133,7 +132,7 @@ struct entry {
 // Some entry of the line, or none where it was looked for.
 static struct entry some_entry(const uint8_t *line, size_t length) {
     static const struct entry NONE = {0, 0, 0};
-    const uint8_t *at = object_in_line(line, objects_of(line) + 1u) + line[DEVICES_AT], *end = line + length;
+    const uint8_t *at = values_in_line(line), *end = line + length;
     struct entry entry = NONE;
     for (size_t skip = below(values_of(line)); at < end; skip--) {
         unsigned count = *at++, last = skip ? count : (unsigned)below(count) + 1;

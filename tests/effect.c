@@ -5,49 +5,6 @@
 // The state area: standings, drivers, devices, then a partition and sixteen bytes for each object, then the locks.
 enum { DRIVERS_FROM = MOST_PARTITION + 1, DEVICES_FROM = DRIVERS_FROM + MOST_OWNERS };
 
-// A number in groups of seven bits, the lowest first.
-enum { GROUP = 7, MOST_BYTES = 3, MOST_NUMBER = 65535 };
-
-const uint8_t *number_at(const uint8_t *at, const uint8_t *end, unsigned *number) {
-    unsigned sum = 0;
-    for (unsigned i = 0; i < MOST_BYTES && at < end; i++, at++) {
-        sum += (*at % LONG_FROM) << GROUP * i;
-        if (*at < LONG_FROM) {
-            *number = sum;
-            return (i > 0 && *at == 0) || sum > MOST_NUMBER ? NULL : at + 1;
-        }
-    }
-    return NULL;
-}
-
-uint8_t *put_number(uint8_t *at, unsigned number) {
-    if (number >= LONG_FROM) {
-        *at++ = (uint8_t)(number % LONG_FROM + LONG_FROM);
-        number /= LONG_FROM;
-    }
-    *at++ = (uint8_t)number;
-    return at;
-}
-
-// Where an accepted line file has its count of values; the objects stand behind it.
-static const uint8_t *values_count(const uint8_t *line) {
-    return line + OBJECTS_AT + (line[OBJECTS_AT] < LONG_FROM ? 1 : 2);
-}
-
-unsigned objects_of(const uint8_t *line) {
-    unsigned objects = 0;
-    number_at(line + OBJECTS_AT, values_count(line), &objects);
-    return objects;
-}
-
-unsigned values_of(const uint8_t *line) {
-    return *values_count(line);
-}
-
-const uint8_t *object_in_line(const uint8_t *line, unsigned object) {
-    return values_count(line) + 1 + 3 * (object - 1);
-}
-
 unsigned room_of(const uint8_t *line) {
     return objects_of(line) <= MOST_SMALL ? MOST_SMALL : MOST_OBJECTS;
 }
@@ -62,76 +19,6 @@ size_t lock_at(const uint8_t *line, unsigned card) {
 
 size_t state_bytes_of(const uint8_t *line) {
     return lock_at(line, MOST_OWNERS + 1);
-}
-
-static int within(unsigned number, unsigned most) {
-    return number >= 1 && number <= most;
-}
-
-static int object_fits(const uint8_t *line, const uint8_t *declared) {
-    uint8_t kind = declared[0], class = declared[1], owner = declared[2];
-    if (class == EXTERNAL) {
-        return within(kind, HARDCODED - 1) && owner == 0;
-    }
-    if (class == BY_DRIVER) {
-        return within(kind, HARDCODED - 1) && within(owner, line[DRIVERS_AT]);
-    }
-    return class == BY_DEVICE && within(kind, HARDCODED) && within(owner, line[DEVICES_AT]);
-}
-
-// Where the entry ends, if it fits; otherwise NULL. Only its object can have two bytes.
-static const uint8_t *entry_end(const uint8_t *line, const uint8_t *at, const uint8_t *end) {
-    unsigned object = 0;
-    at = number_at(at, end, &object);
-    if (!at || end - at < 2 || !within(object, objects_of(line)) || !within(at[0], BOTH) || at[1] > values_of(line)) {
-        return NULL;
-    }
-    int stores = object_in_line(line, object)[0] == TRANSFER && at[0] != READ;
-    return at[1] == 0 || stores ? at + 2 : NULL;
-}
-
-static int values_fit(const uint8_t *line, const uint8_t *at, const uint8_t *end) {
-    for (unsigned value = 1; value <= values_of(line); value++) {
-        if (at == end || *at > MOST_ENTRIES) {
-            return 0;
-        }
-        for (unsigned count = *at++; count > 0; count--) {
-            at = entry_end(line, at, end);
-            if (!at) {
-                return 0;
-            }
-        }
-    }
-    return at == end;
-}
-
-static int counts_fit(const uint8_t *line, size_t length) {
-    unsigned objects = 0;
-    const uint8_t *end = line + length;
-    const uint8_t *at = length > OBJECTS_AT ? number_at(line + OBJECTS_AT, end, &objects) : NULL;
-    return at && at < end && line[0] == 1 && line[DRIVERS_AT] <= MOST_OWNERS && line[DEVICES_AT] <= MOST_OWNERS &&
-           objects <= MOST_OBJECTS && *at <= MOST_VALUES;
-}
-
-int line_fits(const uint8_t *line, size_t length) {
-    if (!counts_fit(line, length)) {
-        return 0;
-    }
-    const uint8_t *at = object_in_line(line, objects_of(line) + 1u);
-    if (length < (size_t)(at - line) + line[DEVICES_AT]) {
-        return 0;
-    }
-    for (unsigned object = 1; object <= objects_of(line); object++) {
-        if (!object_fits(line, object_in_line(line, object))) {
-            return 0;
-        }
-    }
-    for (unsigned device = 1; device <= line[DEVICES_AT]; device++) {
-        if (*at++ > values_of(line)) {
-            return 0;
-        }
-    }
-    return values_fit(line, at, line + length);
 }
 
 // Where an item, a pair or an object that a record lists ends, if it fits; otherwise NULL.
@@ -204,11 +91,6 @@ static uint8_t *content_of(uint8_t *state, unsigned object) {
     return partition_of(state, object) + 1;
 }
 
-// The value number of a device's hardcoded descriptor.
-static uint8_t hardcoded_value(const uint8_t *line, uint8_t device) {
-    return object_in_line(line, objects_of(line) + 1u)[device - 1];
-}
-
 size_t owner_at(uint8_t class, uint8_t owner) {
     return (class == BY_DRIVER ? DRIVERS_FROM : DEVICES_FROM) + owner - 1u;
 }
@@ -228,7 +110,7 @@ static int content_right(const uint8_t *line, const uint8_t *declared, const uin
         return 1;
     }
     int known =
-        declared[0] == TRANSFER ? content[0] <= values_of(line) : content[0] == hardcoded_value(line, declared[2]);
+        declared[0] == TRANSFER ? content[0] <= values_of(line) : content[0] == *device_in_line(line, declared[2]);
     return known && all_zero(content + 1, CONTENT - 1);
 }
 
@@ -276,7 +158,7 @@ void follow_fresh(const uint8_t *line, uint8_t *state) {
     for (unsigned object = 1; object <= objects_of(line); object++) {
         const uint8_t *declared = object_in_line(line, object);
         if (declared[0] == HARDCODED) {
-            content_of(state, object)[0] = hardcoded_value(line, declared[2]);
+            content_of(state, object)[0] = *device_in_line(line, declared[2]);
         }
     }
 }
@@ -302,7 +184,7 @@ static void move_owner(const uint8_t *line, uint8_t *state, uint8_t class, uint8
 // The object that stands next in a record that fits; the place moves behind it.
 static unsigned next_object(const uint8_t **at) {
     unsigned object = 0;
-    *at = number_at(*at, *at + MOST_BYTES, &object);
+    *at = number_at(*at, *at + NUMBER_BYTES, &object);
     return object;
 }
 

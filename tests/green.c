@@ -22,10 +22,9 @@ static int next_entry(struct entries *entries, unsigned *object, unsigned *mode)
     return 1;
 }
 
-// Value 0 has no entries, and a value that the line does not have none either; the others stand behind the cards'
-// hard-wired values.
+// Value 0 has no entries, and a value that the line does not have none either; the others stand behind the cards.
 static struct entries entries_of(const uint8_t *line, unsigned value) {
-    struct entries entries = {object_in_line(line, objects_of(line) + 1u) + line[DEVICES_AT], 0};
+    struct entries entries = {values_in_line(line), 0};
     for (unsigned before = 0; before < value && value <= values_of(line); before++) {
         unsigned object, mode;
         while (next_entry(&entries, &object, &mode)) {
@@ -73,9 +72,9 @@ static int stores_keep_rule(const uint8_t *line, const uint8_t *state, const uin
     return 1;
 }
 
-// Whether a card has a ring: its hard-wired value, which stands behind the objects, writes a transfer descriptor.
+// Whether a card has a ring: its hard-wired value writes a transfer descriptor.
 static int has_ring(const uint8_t *line, uint8_t card) {
-    struct entries entries = entries_of(line, object_in_line(line, objects_of(line) + 1u)[card - 1]);
+    struct entries entries = entries_of(line, *device_in_line(line, card));
     unsigned object, mode;
     while (next_entry(&entries, &object, &mode)) {
         if (writes_descriptor(line, object, mode)) {

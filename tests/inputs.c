@@ -1,82 +1,8 @@
-#include <stdio.h>
-#include <stdlib.h>
 #include <string.h>
 
-#include "../bench/slurp.h"
 #include "effect.h"
 #include "inputs.h"
-
-// Document 01's file L, read where the repository has it.
-static uint8_t LINE_L[45];
-
-// A line whose transfer descriptor is read by no card. Each of its values names one object: a driver's, the card's, or
-// an external one, so that a descriptor which stays in a green zone keeps the object there.
-static const uint8_t LINE_HELD[] = {1, 2, 1, 5, 3, 1, 1, 1, 3, 1, 2, 4, 2, 1, 3, 2, 1,
-                                    3, 0, 0, 0, 1, 2, 1, 0, 1, 4, 3, 0, 1, 5, 2, 0};
-
-void read_line_l(void) {
-    if (slurp("crates/office/data/line.bin", LINE_L, sizeof LINE_L) != sizeof LINE_L) {
-        fprintf(stderr, "crates/office/data/line.bin is not file L\n");
-        exit(2);
-    }
-}
-
-// What is done on L: a length, then the record. A driver's write of value 3, and what a card then may write, stand
-// twice: they seldom come one after the other.
-static const uint8_t RECORDS_L[][24] = {
-    {2, 5, 1},
-    {2, 5, 2},
-    {3, 7, 1, 1},
-    {3, 8, 1, 1},
-    {3, 8, 2, 2},
-    {4, 9, 1, 1, 5},
-    {6, 1, 1, 1, 2, 0, 3},
-    {21, 2, 1, 1, 5, 1, 10, 11, 12, 13, 14, 15, 16, 17, 18, 19, 20, 21, 22, 23, 24, 25},
-    {4, 12, 1, 1, 5},
-    {5, 3, 1, 1, 5, 0},
-    {5, 4, 1, 1, 2, 0},
-    {5, 4, 1, 1, 2, 4},
-    {2, 6, 2},
-    {2, 11, 2},
-    {2, 10, 1},
-    {6, 1, 1, 1, 2, 0, 5},
-    {7, 3, 1, 2, 6, 5, 5, 0},
-    {6, 1, 1, 1, 2, 0, 2},
-    {5, 3, 1, 1, 2, 2},
-    {6, 1, 1, 1, 2, 0, 3},
-    {21, 2, 1, 1, 5, 1, 10, 11, 12, 13, 14, 15, 16, 17, 18, 19, 20, 21, 22, 23, 24, 25},
-    {2, 14, 1},
-    {2, 14, 2},
-    {2, 15, 1},
-    {2, 15, 2},
-};
-
-// What is done on that one.
-static const uint8_t RECORDS_HELD[][24] = {
-    {3, 7, 2, 1},
-    {3, 8, 1, 1},
-    {4, 9, 1, 1, 5},
-    {6, 1, 1, 1, 1, 0, 1},
-    {6, 1, 1, 1, 1, 0, 2},
-    {6, 1, 1, 1, 1, 0, 3},
-    {5, 3, 1, 1, 1, 1},
-    {2, 10, 2},
-    {2, 11, 1},
-    {4, 12, 1, 1, 5},
-    {2, 14, 1},
-    {2, 15, 1},
-};
-
-// Lines whose numbers have one byte each and whose values one entry each, with what is done on them.
-struct known {
-    const uint8_t *line;
-    size_t length;
-    const uint8_t (*records)[24];
-    size_t count;
-};
-static const struct known L = {LINE_L, sizeof LINE_L, RECORDS_L, sizeof RECORDS_L / sizeof *RECORDS_L};
-static const struct known HELD = {LINE_HELD, sizeof LINE_HELD, RECORDS_HELD,
-                                  sizeof RECORDS_HELD / sizeof *RECORDS_HELD};
+#include "known.h"
 
 static uint64_t seed;
 
@@ -124,44 +50,40 @@ static size_t mutate(uint8_t *to, size_t n, size_t room) {
     return n;
 }
 
-// Edition and counts; the objects begin behind them.
-static uint8_t *put_counts(uint8_t *to, unsigned drivers, unsigned devices, unsigned objects, unsigned values) {
-    to[0] = 1;
-    to[DRIVERS_AT] = (uint8_t)drivers;
-    to[DEVICES_AT] = (uint8_t)devices;
-    return put_number(put_number(to + OBJECTS_AT, objects), values);
+// The least number of three bytes, and the least that was too large for every number once (request N7).
+enum { THREE_BYTES = LONG_FROM * LONG_FROM, ONCE_TOO_LARGE = 65536 };
+
+// A number where its length changes, or about the limits; or any.
+static unsigned some_serial(void) {
+    static const unsigned ends[] = {0,           1,           LONG_FROM - 1,      LONG_FROM,      THREE_BYTES - 1,
+                                    THREE_BYTES, MOST_SERIAL, ONCE_TOO_LARGE - 1, ONCE_TOO_LARGE, 70000};
+    size_t kind = below(16);
+    return kind < sizeof ends / sizeof *ends ? ends[kind] : (unsigned)below(MOST_SERIAL + 1);
 }
 
-// A known line with so many objects: its own are the last ones, and what stands before them is external data.
-static size_t lifted(const struct known *known, unsigned objects, uint8_t *to) {
-    const uint8_t *line = known->line;
-    uint8_t *at = put_counts(to, line[DRIVERS_AT], line[DEVICES_AT], objects, values_of(line));
-    unsigned shift = objects - objects_of(line);
-    for (unsigned object = 1; object <= shift; object++) {
-        *at++ = HARDCODED - 1;
-        *at++ = EXTERNAL;
-        *at++ = 0;
+// A number that no field of a record can have, at the ends of what there may be, the first of four bytes too; or one
+// that is a right one modulo 256 or modulo 65,536.
+static unsigned some_large(size_t most) {
+    static const unsigned ends[] = {THREE_BYTES, ONCE_TOO_LARGE - 1, ONCE_TOO_LARGE,
+                                    70000,       MOST_SERIAL,        MOST_SERIAL + 1};
+    size_t kind = below(3), right = 1 + below(most);
+    if (kind == 0) {
+        return ends[below(sizeof ends / sizeof *ends)];
     }
-    const uint8_t *first = object_in_line(line, 1);
-    const uint8_t *value = object_in_line(line, objects_of(line) + 1u) + line[DEVICES_AT];
-    memcpy(at, first, (size_t)(value - first));
-    at += value - first;
-    // Each of its values: count, object, mode, put value.
-    for (; value < line + known->length; value += 4) {
-        *at++ = value[0];
-        at = put_number(at, value[1] + shift);
-        *at++ = value[2];
-        *at++ = value[3];
-    }
-    return (size_t)(at - to);
+    return (unsigned)(right + (kind == 1 ? 256 * (1 + below(255)) : ONCE_TOO_LARGE * (1 + below(31))));
 }
 
-// Whether a line is a known one, or that among more objects.
-static int is_lifted(const struct known *known, const uint8_t *line) {
-    static uint8_t made[MOST_LINE];
-    unsigned objects = objects_of(line);
-    return (objects == objects_of(known->line) || objects > MOST_SMALL) &&
-           memcmp(made, line, lifted(known, objects, made)) == 0;
+size_t in_some_edition(uint8_t *line, size_t length) {
+    static uint8_t first[MOST_LINE];
+    unsigned serials[MOST_OWNERS];
+    if (below(2)) {
+        return length;
+    }
+    for (size_t device = 0; device < MOST_OWNERS; device++) {
+        serials[device] = some_serial();
+    }
+    memcpy(first, line, length);
+    return with_serials(first, length, serials, line);
 }
 
 // The first objects are the devices' hardcoded descriptors; the others are of any kind and owner that there are.
@@ -223,16 +145,15 @@ static unsigned wide_count(void) {
 size_t sound_line(uint8_t *to) {
     together = below(2) == 0;
     greens = (unsigned)(below(2) * below(4));
-    const struct known *known = below(4) ? &L : &HELD;
+    enum known_name known = below(4) ? KNOWN_L : KNOWN_HELD;
     if (below(2)) {
-        memcpy(to, known->line, known->length);
-        return known->length;
+        return in_some_edition(to, known_line(known, to));
     }
     size_t size = below(4);
     int full = size == 0, wide = size == 1;
     rings = below(2) == 0;
     if (wide && below(2)) {
-        return lifted(known, wide_count(), to);
+        return in_some_edition(to, lifted_line(known, wide_count(), to));
     }
     // Half of the wide lines have few drivers and devices, so that a session gets to bring all in.
     int many = full || (wide && below(2));
@@ -243,7 +164,20 @@ size_t sound_line(uint8_t *to) {
     for (unsigned device = 1; device <= devices; device++) {
         *at++ = device <= values ? (uint8_t)device : 0;
     }
-    return (size_t)(put_values(to, at) - to);
+    return in_some_edition(to, (size_t)(put_values(to, at) - to));
+}
+
+// A large number in place of a byte; now and then it is not in the shortest form, or has a byte too many.
+static size_t enlarge(uint8_t *to, size_t length) {
+    uint8_t number[NUMBER_BYTES + 2];
+    size_t place = below(length), bytes = (size_t)(put_number(number, some_large(MOST_OBJECTS)) - number);
+    if (below(8) == 0) {
+        number[bytes - 1] |= LONG_FROM;
+        number[bytes++] = (uint8_t)below(2);
+    }
+    memmove(to + place + bytes, to + place + 1, length - place - 1);
+    memcpy(to + place, number, bytes);
+    return length + bytes - 1;
 }
 
 size_t any_line(const uint8_t *sound, size_t length, uint8_t *to) {
@@ -256,13 +190,18 @@ size_t any_line(const uint8_t *sound, size_t length, uint8_t *to) {
     memcpy(to, sound, length);
     if (kind == 1) {
         to[below(length)] = (uint8_t)below(6);
+    } else if (kind == 4 && below(2)) {
+        return enlarge(to, length);
     }
     return kind == 2 ? mutate(to, length, MOST_LINE) : kind == 3 ? below(length) : length;
 }
 
-// A number from 1 to `most`, and now and then one that may be beyond.
+// A number from 1 to `most`, and now and then one that may be beyond, or far beyond.
 static unsigned some(size_t most) {
-    return (unsigned)(below(32) ? 1 + below(most) : below(2 * most + 100));
+    if (below(32)) {
+        return 1 + (unsigned)below(most);
+    }
+    return below(2) ? (unsigned)below(2 * most + 100) : some_large(most);
 }
 
 static int is_external(const uint8_t *line, unsigned object) {
@@ -283,8 +222,13 @@ static uint8_t *put_item(const uint8_t *line, uint8_t *at) {
     int known = object >= 1 && object <= objects_of(line);
     int form = known && object_in_line(line, object)[0] == TRANSFER ? 0 : 1;
     at = put_number(at, object);
-    *at = (uint8_t)(below(32) ? form : 1 - form);
-    if (*at++ == 0) {
+    if (below(256) == 0) {
+        at = put_number(at, some_large(2) - 1);
+    } else {
+        form = below(32) ? form : 1 - form;
+        *at++ = (uint8_t)form;
+    }
+    if (form == 0) {
         return put_number(at, below(32) ? (unsigned)below(values_of(line) + 1u) : some(MOST_VALUES));
     }
     random_bytes(at, CONTENT);
@@ -293,7 +237,7 @@ static uint8_t *put_item(const uint8_t *line, uint8_t *at) {
 
 static uint8_t *put_list(const uint8_t *line, uint8_t code, uint8_t *at) {
     size_t count = below(8) ? 1 + below(2) : 1 + below(MOST_COUNT);
-    *at++ = (uint8_t)count;
+    at = put_number(at, below(128) ? (unsigned)count : some_large(MOST_COUNT));
     for (size_t i = 0; i < count; i++) {
         if (code <= 2) {
             at = put_item(line, at);
@@ -346,34 +290,12 @@ static size_t random_record(const uint8_t *line, uint8_t *to) {
     uint8_t code = (uint8_t)(below(2) ? 1 + below(15) : 1 + below(4));
     int by_partition = code == 5 || code == 6 || code == 9 || code == 12 || code == 13;
     int by_driver = code == 1 || code == 3 || code == 7 || code == 10;
-    to[0] = code;
-    uint8_t *at = put_number(to + 1, some(by_partition ? 3 : line[by_driver ? DRIVERS_AT : DEVICES_AT]));
+    uint8_t *at = put_number(to, below(128) ? code : some_large(15));
+    at = put_number(at, some(by_partition ? 3 : line[by_driver ? DRIVERS_AT : DEVICES_AT]));
     if (code == 7 || code == 8) {
         at = put_number(at, some(2));
     } else if (code <= 4 || code == 9 || code == 12) {
         at = put_list(line, code, at);
-    }
-    return (size_t)(at - to);
-}
-
-// A record for a known line, for one whose objects have larger numbers by `shift`; 0 as a destination stays.
-static size_t lifted_record(const uint8_t *listed, unsigned shift, uint8_t *to) {
-    const uint8_t *from = listed + 1, *end = from + listed[0];
-    uint8_t code = from[0], *at = to;
-    size_t head = code <= 4 || code == 9 || code == 12 ? 3 : listed[0];
-    memcpy(at, from, head);
-    at += head;
-    for (from += head; from < end;) {
-        at = put_number(at, *from++ + shift);
-        if (code == 3 || code == 4) {
-            at = put_number(at, *from ? *from + shift : 0);
-            from++;
-        } else if (code <= 2) {
-            size_t put = from[0] ? 1 + CONTENT : 2;
-            memcpy(at, from, put);
-            at += put;
-            from += put;
-        }
     }
     return (size_t)(at - to);
 }
@@ -385,11 +307,7 @@ size_t any_record(const uint8_t *sound, uint8_t *to) {
         random_bytes(to, n);
         return n;
     }
-    const struct known *known = is_lifted(&L, sound) ? &L : is_lifted(&HELD, sound) ? &HELD : NULL;
-    if (known && below(4)) {
-        n = lifted_record(known->records[below(known->count)], objects_of(sound) - objects_of(known->line), to);
-    } else {
-        n = random_record(sound, to);
-    }
+    n = below(4) ? known_record(sound, below(UINT16_MAX), to) : 0;
+    n = n ? n : random_record(sound, to);
     return kind < 3 ? mutate(to, n, MOST_RECORD) : n;
 }

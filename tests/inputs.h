@@ -8,9 +8,6 @@
 // No line or record that is made is longer.
 enum { MOST_LINE = 1900, MOST_RECORD = 300 };
 
-// Reads document 01's file L; before any line is made, in the repository's root.
-void read_line_l(void);
-
 void seed_inputs(uint64_t seed);
 
 // A number below n, 0 for n = 0.
@@ -18,12 +15,15 @@ size_t below(size_t n);
 
 void random_bytes(uint8_t *to, size_t n);
 
+// A line of edition 1 as it is or, as often, in edition 2 with serials of all lengths; returns the length.
+size_t in_some_edition(uint8_t *line, size_t length);
+
 // Document 01's line L, one whose descriptor no card reads, or a random one that meets questions 1 to 6, up to full
-// size. One line out of eight is a wide one, every second of them one of the first two with more objects before its
-// own. All return the length.
+// size, in either edition. One line out of eight is a wide one, every second of them one of the first two with more
+// objects before its own. All return the length. (tests/known.h: the file L is read before.)
 size_t sound_line(uint8_t *to);
 
-// A sound line as it is, with one number changed, cut, mutated, or bytes in its place.
+// A sound line as it is, with one number changed, or made a large one, cut, mutated, or bytes in its place.
 size_t any_line(const uint8_t *sound, size_t length, uint8_t *to);
 
 // The record that brings in what the line has at a step from 0: a driver, a device, or external objects; 0 where there

@@ -2,13 +2,13 @@
 #include <string.h>
 
 #include "areas.h"
+#include "calls.h"
 #include "effect.h"
 #include "rooms.h"
 #include "sorter_gate.h"
 
-// What areas are filled with before a call; the least count of objects that no line can have; the least number that no
-// partition can have.
-enum { OLD = 0xEE, TOO_MANY = MOST_OBJECTS + 1, NO_PARTITION = MOST_PARTITION + 1 };
+// The least count of objects that no line can have; the least number that no partition can have.
+enum { TOO_MANY = MOST_OBJECTS + 1, NO_PARTITION = MOST_PARTITION + 1 };
 
 // Counts of objects: the ends of both kinds of lines; those that leave many records or one to nobody; those of wide
 // lines, where the number gets a byte more too.
@@ -24,63 +24,20 @@ _Static_assert(SORTER_GATE_STATE_BYTES == OBJECTS_FROM + RECORD_BYTES * MOST_SMA
 _Static_assert(SORTER_GATE_STATE_BYTES_WIDE == OBJECTS_FROM + RECORD_BYTES * MOST_OBJECTS + MOST_OWNERS,
                "the wide area's length");
 
-// The areas that may be written, and their pages as the call must leave them. In the others nothing can be written.
-static const enum area_name WRITTEN[] = {STATE, ANSWER, OUT};
-static uint8_t expected[AREAS][PAGE];
-
-// The state area stands a second time, for the call that only reads it.
-static void keep(void) {
-    put_area(STORED, own_start(STATE), areas[STATE].length);
-    for (size_t i = 0; i < sizeof WRITTEN / sizeof *WRITTEN; i++) {
-        memcpy(expected[WRITTEN[i]], areas[WRITTEN[i]].own, PAGE);
-    }
-}
-
-static void fill(enum area_name name, size_t length, uint8_t byte) {
-    areas[name].length = length;
-    memset(areas[name].own, byte, PAGE);
-}
-
-static uint8_t *put_head(uint8_t *at, unsigned drivers, unsigned cards, unsigned objects, unsigned values) {
-    *at++ = 1;
-    *at++ = (uint8_t)drivers;
-    *at++ = (uint8_t)cards;
-    return put_number(put_number(at, objects), values);
-}
-
-static uint8_t *put_object(uint8_t *at, uint8_t kind, uint8_t class, unsigned owner) {
-    *at++ = kind;
-    *at++ = class;
-    *at++ = (uint8_t)owner;
-    return at;
-}
-
 // A line of external data alone stands in its area.
 static void lend_data(unsigned objects) {
     static uint8_t line[PAGE];
-    uint8_t *at = put_head(line, 0, 0, objects, 0);
+    uint8_t *at = put_counts(line, 0, 0, objects, 0);
     for (unsigned object = 1; object <= objects; object++) {
         at = put_object(at, HARDCODED - 1, EXTERNAL, 0);
     }
     put_area(LINE, line, (size_t)(at - line));
 }
 
-// A line of cards, each of which has its hardcoded descriptor and nothing else, and of external data behind these.
-static void lend_cards(unsigned cards, unsigned objects) {
-    static uint8_t line[PAGE];
-    uint8_t *at = put_head(line, 0, cards, objects, 0);
-    for (unsigned object = 1; object <= objects; object++) {
-        at =
-            object <= cards ? put_object(at, HARDCODED, BY_DEVICE, object) : put_object(at, HARDCODED - 1, EXTERNAL, 0);
-    }
-    memset(at, 0, cards);
-    put_area(LINE, line, (size_t)(at - line) + cards);
-}
-
 // A line of transfer descriptors, with values whose two entries name the last objects.
 static void lend_linked(unsigned objects) {
     static uint8_t line[PAGE];
-    uint8_t *at = put_head(line, MOST_OWNERS, 0, objects, MOST_VALUES);
+    uint8_t *at = put_counts(line, MOST_OWNERS, 0, objects, MOST_VALUES);
     for (unsigned object = 1; object <= objects; object++) {
         at = put_object(at, TRANSFER, BY_DRIVER, 1 + object % MOST_OWNERS);
     }
@@ -95,61 +52,6 @@ static void lend_linked(unsigned objects) {
     put_area(LINE, line, (size_t)(at - line));
 }
 
-// The answer of a call that has a kind, where a question refuses.
-static uint64_t refused_by(enum sorter_gate_answer question) {
-    return ((uint64_t)SORTER_GATE_REFUSED << 32) + question;
-}
-
-// The answer is the one wanted, and every page is as it is kept.
-static void hold(uint64_t answer, uint64_t wanted, const char *what, size_t which) {
-    if (answer != wanted) {
-        complain("answered %llu, and not %llu, for %s %zu", (unsigned long long)answer, (unsigned long long)wanted,
-                 what, which);
-    }
-    for (size_t i = 0; i < sizeof WRITTEN / sizeof *WRITTEN; i++) {
-        enum area_name name = WRITTEN[i];
-        if (memcmp(areas[name].own, expected[name], PAGE)) {
-            complain("answered %llu, and left another byte in the %s than it must, for %s %zu",
-                     (unsigned long long)answer, area_text(name), what, which);
-        }
-    }
-}
-
-static uint32_t load_check(void) {
-    trial.call = "gate_load_check";
-    return gate_load_check(lent_start(LINE), areas[LINE].length);
-}
-
-static uint64_t state_bytes(void) {
-    trial.call = "gate_state_bytes";
-    return gate_state_bytes(lent_start(LINE), areas[LINE].length);
-}
-
-static uint32_t make_fresh(void) {
-    trial.call = "gate_fresh";
-    return gate_fresh(lent_start(LINE), areas[LINE].length, lent_start(STATE), areas[STATE].length);
-}
-
-static uint32_t operate(void) {
-    trial.call = "gate_operate";
-    return gate_operate(lent_start(LINE), areas[LINE].length, lent_start(STATE), areas[STATE].length,
-                        lent_start(RECORD), areas[RECORD].length, lent_start(ANSWER), areas[ANSWER].length);
-}
-
-static uint64_t first_bad(void) {
-    trial.call = "gate_first_bad";
-    return gate_first_bad(lent_start(LINE), areas[LINE].length, lent_start(STORED), areas[STORED].length);
-}
-
-static uint64_t rewrite(void) {
-    trial.call = "gate_rewrite";
-    return gate_rewrite(lent_start(LINE), areas[LINE].length, lent_start(OUT), areas[OUT].length);
-}
-
-static uint8_t *expected_state(void) {
-    return expected[STATE] + (own_start(STATE) - areas[STATE].own);
-}
-
 // The calls on a state area of every length: only that which the line needs passes question 7. Every record of the area
 // is broken before it is made fresh.
 static void try_state_lengths(struct rooms *tally) {
@@ -162,22 +64,16 @@ static void try_state_lengths(struct rooms *tally) {
         hold(first_bad(), right ? 1 : refused_by(SORTER_GATE_STATE_LENGTH), "a state area of length", length);
         uint32_t number = make_fresh();
         if (right) {
-            follow_fresh(own_start(LINE), expected_state());
+            follow_fresh(own_start(LINE), expected_start(STATE));
         }
         hold(number, right ? SORTER_GATE_ACCEPTED : SORTER_GATE_STATE_LENGTH, "a state area of length", length);
         number = operate();
         if (right) {
-            expected_state()[1] = 1;
+            expected_start(STATE)[1] = 1;
         }
         hold(number, right ? SORTER_GATE_ACCEPTED : SORTER_GATE_STATE_LENGTH, "a state area of length", length);
         tally->lengths += 3;
     }
-}
-
-// The fresh state of the line stands in its area.
-static void lend_fresh(void) {
-    fill(STATE, state_bytes_of(own_start(LINE)), OLD);
-    follow_fresh(own_start(LINE), own_start(STATE));
 }
 
 // An answer area of every length.
@@ -284,7 +180,7 @@ static void hold_locking(uint8_t code, unsigned card, uint32_t wanted, struct ro
     keep();
     uint32_t number = operate();
     if (wanted == SORTER_GATE_ACCEPTED) {
-        expected_state()[lock_at(own_start(LINE), card)] = code == SORTER_GATE_CODE_LOCK_CARD ? LOCKED : UNLOCKED;
+        expected_start(STATE)[lock_at(own_start(LINE), card)] = code == SORTER_GATE_CODE_LOCK_CARD ? LOCKED : UNLOCKED;
     }
     hold(number, wanted, code == SORTER_GATE_CODE_LOCK_CARD ? "locking card" : "unlocking card", card);
     tally->locks++;
