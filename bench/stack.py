@@ -36,6 +36,8 @@ OPERATION = list(CALLS).index("operation")
 CODES = range(1, 16)
 SIZES = (lines.FULL, lines.WIDE)
 
+# A library with a fault.
+FAULTY = ("tests/line.c", *(f"tests/faulty{part}.c" for part in ("", "_kinds", "_locks", "_serials")))
 # Faults by their names in tests/faulty.c, and how what is said of them begins.
 FAULTS = {
     "constant 0": "operation: answer 0, not 10",
@@ -164,7 +166,7 @@ def table(folder):
 
 def try_faults(folder):
     """Each fault makes the first row that it spoils fail, and for the reason that is expected."""
-    program = build(f"{folder}/faulty", *SOURCES, *(f"tests/faulty{part}.c" for part in ("", "_kinds", "_locks")), WRAP)
+    program = build(f"{folder}/faulty", *SOURCES, *FAULTY, WRAP)
     for name, expected in FAULTS.items():
         said = next((fault for _, row in rows(program, folder, name) for fault in faults(row)), "nothing")
         if not said.startswith(expected):

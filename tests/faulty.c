@@ -34,6 +34,18 @@
 //   fresh-keeps       a fresh state keeps the lock bytes that were there
 //   leave-unlocks     a card that leaves takes all locks with it
 //   named-locks       gate_first_bad looks at the lock bytes too, and names the last record for them
+// Faults about editions, serials and large numbers (tests/faulty_serials.c):
+//   drop-serials      a line of edition 2 is written as one of edition 1
+//   cut-serials       serials are written with their lowest sixteen bits alone
+//   serial-first      card 1's serial is written before its value number
+//   as-second         a line of edition 1 is written as one of edition 2
+//   no-second         edition 2 is refused by 3
+//   third             edition 3 is taken for edition 2
+//   last-serial       edition 2 is read without the serial of the last card
+//   old-limit         a serial above 65,535 is refused by 2
+//   old-records       a number above 65,535 in a record is refused by 10
+//   word-records      numbers of a record are cut to sixteen bits
+//   judged-serials    no partition is created on a line whose card 1 has a serial
 // Faults of gate_state_bytes alone (tests/faulty_kinds.c has these and those that follow):
 //   told ANSWER       it answers that
 //   one-off           it takes a line of 97 objects for a small one
@@ -73,9 +85,8 @@ uint64_t __wrap_gate_first_bad(const uint8_t *line, size_t line_len, const uint8
 uint64_t __wrap_gate_rewrite(const uint8_t *line, size_t line_len, uint8_t *out, size_t out_len);
 
 enum { OWN_STACK = 256 * 1024, DEEP = 16 * 1024 };
-// The most objects that there can be; how many standings a state area has; the code that creates a green zone, its
-// standing and that of others.
-enum { MOST_OBJECTS = 192, PARTITIONS = 64, CREATE_GREEN = 13, EXISTING = 1, GREEN = 3 };
+// How many standings a state area has; the code that creates a green zone, its standing and that of others.
+enum { PARTITIONS = 64, CREATE_GREEN = 13, EXISTING = 1, GREEN = 3 };
 
 static const char *const NAMES[] = {"load_check", "fresh", "operate", "state_bytes", "first_bad", "rewrite"};
 
@@ -263,6 +274,8 @@ static uint64_t spoilt(struct call *call) {
     } else if (is("as-plain") && record->length > 0 && record->at[0] == wanted_number() &&
                call->areas[1].length >= PARTITIONS) {
         go_on_as_plain(call);
+    } else if (is_about_serials()) {
+        go_on_serials(call);
     } else if (has_locks(call)) {
         go_on_locks(call);
     } else {

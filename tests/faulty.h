@@ -5,6 +5,7 @@
 #include <stddef.h>
 #include <stdint.h>
 
+#include "line.h"
 #include "sorter_gate.h"
 
 uint32_t __real_gate_load_check(const uint8_t *line, size_t line_len);
@@ -16,9 +17,8 @@ uint64_t __real_gate_first_bad(const uint8_t *line, size_t line_len, const uint8
 uint64_t __real_gate_rewrite(const uint8_t *line, size_t line_len, uint8_t *out, size_t out_len);
 
 enum { AREAS = 5, PAGE = 4096 };
-// Where a line has its count of objects, in one byte or, from LONG_FROM on, two; where a state area has its records,
-// and the bytes of one.
-enum { OBJECTS_AT = 3, LONG_FROM = 128, RECORDS_FROM = 96, RECORD_BYTES = 17 };
+// Where a state area has its records, and the bytes of one.
+enum { RECORDS_FROM = 96, RECORD_BYTES = 17 };
 
 // The areas of a call; the calls that have fewer leave the others out.
 struct lent {
@@ -68,6 +68,10 @@ void go_on(struct call *call);
 
 // The faults of a call whose answer has a kind, after the real call.
 void spoil_with_kind(struct call *call);
+
+// Whether the fault is one about editions, serials and large numbers; the real call with it.
+int is_about_serials(void);
+void go_on_serials(struct call *call);
 
 // Whether a call has a line and a state area of a length that has lock bytes; the real call with the faults about them.
 int has_locks(const struct call *call);

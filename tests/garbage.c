@@ -4,7 +4,8 @@
 // leaves what document 01 says, and no answer is one that tests/green.c or tests/locks.c has something against; the
 // same inputs get the same answers in both passes; and in each pass, on small lines and on wide ones, every number is
 // answered, 23 to each of its codes, every code is accepted and an area of the other lines' length is refused, and
-// every area is empty at least once. Then in each pass what tests/rooms.c tries out one by one. (tests/rewriting.c,
+// every area is empty at least once. Some calls on lines of edition 2 are made again in edition 1, where they must do
+// the same. Then in each pass what tests/rooms.c and tests/serials.c try out one by one. (tests/rewriting.c,
 // state_bytes.c and first_bad.c hold the functions whose answers have a kind to what they must answer.)
 //   garbage TIMES SEED   makes TIMES calls in each pass; prints how often each number came, and each code was accepted;
 //                        to be called in the repository's root
@@ -17,14 +18,16 @@
 #include "first_bad.h"
 #include "green.h"
 #include "inputs.h"
+#include "known.h"
 #include "locks.h"
 #include "rewriting.h"
 #include "rooms.h"
+#include "serials.h"
 #include "sorter_gate.h"
 #include "state_bytes.h"
 
-// A session is a fresh state and the calls after it, on one sound line.
-enum { NUMBERS = 24, CODES = 16, SESSION = 256 };
+// A session is a fresh state and the calls after it, on one sound line; one input out of some has its call made again.
+enum { NUMBERS = 24, CODES = 16, SESSION = 256, AGAIN = 4 };
 
 // The calls that judge: their answer is a number alone.
 enum call { LOAD_CHECK, FRESH, OPERATE, CALLS };
@@ -45,6 +48,7 @@ struct tally {
     struct state_lengths state_lengths;
     struct first_bads first_bads;
     struct rooms rooms;
+    struct serials serials;
 };
 
 // The answers of the first pass, one after the other.
@@ -170,6 +174,10 @@ static uint32_t checked_call(enum call call, struct tally *tally) {
     if (call == OPERATE) {
         hold_rules(number);
     }
+    if (call != FRESH && trial.input % AGAIN == 0) {
+        checked_silence(call == OPERATE ? JUDGES_RECORD : JUDGES_LINE, number, expected_start(STATE),
+                        expected_start(ANSWER), &tally->serials);
+    }
     if (number == 0) {
         follow(call, tally);
     }
@@ -284,6 +292,9 @@ static void demand_all(const struct tally *tally) {
     if (!tally->long_named) {
         complain("never accepted a record that names an object in two bytes");
     }
+    if (!tally->serials.again) {
+        complain("never got a line of edition 2");
+    }
     for (enum call call = LOAD_CHECK; call < CALLS; call++) {
         for (int name = LINE; name < TAKES[call]; name++) {
             if (!tally->empty[call][name]) {
@@ -315,6 +326,7 @@ static void run_pass(enum place place, unsigned long times, uint64_t seed, struc
     }
     demand_all(tally);
     checked_rooms(&tally->rooms);
+    checked_serials(&tally->serials);
 }
 
 // A number for small lines, and one for wide ones.
@@ -356,5 +368,6 @@ int main(int argc, char **argv) {
     print_state_bytes(&first->state_lengths);
     print_first_bads(&first->first_bads);
     print_rooms(&first->rooms);
+    print_serials(&first->serials);
     return 0;
 }

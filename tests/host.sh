@@ -13,7 +13,8 @@ trap 'rm -rf "$out"' EXIT
 # The sanitizers watch the test's own code alone: the library is not built for them.
 flags=(-std=c11 -O2 -Wall -Wextra -Werror -Iinclude -g -fsanitize=address,undefined)
 parts=()
-for name in garbage areas effect green inputs locks refusals rewriting state_bytes first_bad rooms; do
+for name in garbage areas calls effect first_bad green inputs known line locks refusals rewriting rooms serials \
+    state_bytes; do
     gcc "${flags[@]}" -c -o "$out/$name.o" "tests/$name.c"
     parts+=("$out/$name.o")
 done
@@ -24,7 +25,7 @@ wrapped=()
 for name in load_check state_bytes fresh operate first_bad rewrite; do
     wrapped+=("-Wl,--wrap=gate_$name")
 done
-faulty=(tests/faulty{,_kinds,_locks}.c target/staticlib/libgate.a "${wrapped[@]}")
+faulty=(tests/faulty{,_kinds,_locks,_serials}.c target/staticlib/libgate.a "${wrapped[@]}")
 gcc "${flags[@]}" -o "$out/faulty" "${parts[@]}" "${faulty[@]}"
 few=100000
 seen=0
@@ -32,7 +33,7 @@ seen=0
 # Areas of before request N6, with zeros where the lock bytes are now, get the answers of before, call by call.
 stored=tests/stored/older.txt
 gcc "${flags[@]}" -o "$out/older" tests/older.c target/staticlib/libgate.a
-gcc "${flags[@]}" -o "$out/older-faulty" tests/older.c "${faulty[@]}"
+gcc "${flags[@]}" -o "$out/older-faulty" tests/{older,line}.c "${faulty[@]}"
 "$out/older" < $stored > "$out/rows"
 cmp "$out/rows" $stored
 echo "host: $(grep -c ' = ' $stored) calls on areas of before, each answered and done as before"
@@ -209,6 +210,23 @@ wrong_locks() {
     must_tell "refuse 15" "the library never accepted code 15 on small lines"
 }
 
+# What concerns editions, serials, and numbers that were too large once.
+wrong_serials() {
+    local wrote="wrote ([0-9]+) bytes, and" told="told that it (wrote|needs) [0-9]+ bytes (of|for) a line of [0-9]+"
+    local lacks="found [0-9]+ bytes too few for a line of [0-9]+"
+    must_tell "drop-serials" "gate_rewrite ($told|wrote a line of [0-9]+ bytes into [0-9]+)"
+    must_tell "cut-serials" "gate_rewrite ($wrote not the line's at place [0-9]+|$told|$lacks|wrote a line .*)"
+    must_tell "serial-first" "gate_rewrite $wrote not the line's at place [0-9]+"
+    must_tell "as-second" "gate_rewrite $wrote not the line's at place 0"
+    must_tell "no-second" "gate_fresh refused a fresh state of a sound line by 3"
+    must_tell "third" "gate_(load_check|fresh|operate) accepted \(0\) a line that it must refuse"
+    must_tell "last-serial" "gate_fresh refused a fresh state of a sound line by [1-6]"
+    must_tell "old-limit" "gate_fresh refused a fresh state of a sound line by 2"
+    must_tell "old-records" "gate_operate answered 10, and not 11, for a record with the number 65536"
+    must_tell "word-records" "gate_operate accepted \(0\) a record that it must refuse"
+    must_tell "judged-serials" "gate_operate answered 14, and 0 for the same line in edition 1"
+}
+
 # Without a fault the few inputs are enough to pass.
 GATE_FAULT=none "$out/faulty" $few 1 > "$out/rows"
 for area in line state record answer; do
@@ -237,6 +255,7 @@ wrong_first_bad
 wrong_rooms
 wrong_green
 wrong_locks
+wrong_serials
 must_tell "constant 0" "gate_fresh accepted \(0\), and did not leave the state as document 01 says at place [0-9]+"
 must_tell "constant 7" "gate_fresh refused a fresh state of a sound line by 7"
 must_tell "constant 10" "gate_fresh answered 10, which is none of its numbers"
