@@ -1,5 +1,5 @@
 """Where bytes stand by document 01: its limits, the state area's places, a configuration in memory as the writer is
-given it (requests N1 and N2), and rows of numbers. Nothing here judges."""
+given it (requests N1, N2 and N7), and rows of numbers. Nothing here judges."""
 MOST_DRIVERS, MOST_DEVICES, MOST_OBJECTS, MOST_VALUES, MOST_ENTRIES = 16, 16, 192, 47, 6
 MOST_ITEMS = 8
 # A line of at most so many objects is a small one, and its area has as many records; a wide one's has one for each
@@ -17,9 +17,19 @@ WIDE_LOCKS_FROM = RECORDS_FROM + RECORD * MOST_OBJECTS
 AREA = LOCKS_FROM + MOST_DEVICES
 WIDE_AREA = WIDE_LOCKS_FROM + MOST_DEVICES
 
+# The largest number; the editions of a line file, from the second of which on a device has a serial behind its
+# hardcoded number (request N7); and the largest serial.
+MOST_NUMBER = 2 ** 21 - 1
+FIRST_EDITION, SERIAL_EDITION = 1, 2
+MOST_SERIAL = MOST_NUMBER
+
 # The counts of a configuration in memory, which come first: D, V, N and K.
 DRIVERS, DEVICES, OBJECTS, VALUES = range(4)
 COUNTS = 4
+# Before them, where a configuration has an edition and serials: the edition in a byte, and serials in four bytes each,
+# lowest byte first, one for each place of the devices' columns, so that place 0 has one too.
+SERIAL_BYTES = 4
+MARKS = 1 + SERIAL_BYTES * (MOST_DEVICES + 1)
 
 
 class Columns:
@@ -71,6 +81,22 @@ def number(n):
 
 def row(numbers):
     return b"".join(number(n) for n in numbers)
+
+
+def with_serials(numbers, serials):
+    """The numbers of a file of edition 1 as those of the same line in edition 2, with these serials, device 1's
+    first."""
+    devices = 5 + 3 * numbers[3]
+    values = devices + numbers[2]
+    marked = sum(([value, serial] for value, serial in zip(numbers[devices:values], serials, strict=True)), [])
+    return [SERIAL_EDITION, *numbers[1:devices], *marked, *numbers[values:]]
+
+
+def marks(edition, serials):
+    """An edition and serials as they stand before a configuration in memory: the serial of place 0 first, and 0 where
+    none is given."""
+    places = [*serials, *[0] * (MOST_DEVICES + 1 - len(serials))]
+    return bytes([edition]) + b"".join(serial.to_bytes(SERIAL_BYTES, "little") for serial in places)
 
 
 def two(n):

@@ -3,8 +3,9 @@
     python3 tests/office.py OFFICE REFERENCE
 
 The folders: generated ones of every size, and bad input (absent, empty, too long and unreadable files; sessions cut in
-a length, in a record, after a row; lengths of 0, 127, 128 and 65,535). `judge` is tried on what a person gets wrong,
-and with programs that fail (tests/broken.py), of which it must say that nothing is judged.
+a length, in a record, after a row; lengths of 0, 127, 128, and from 65,535 to what three bytes hold, and longer), and
+sessions of L in edition 2 and with large numbers in their records. `judge` is tried on what a person gets wrong, and
+with programs that fail (tests/broken.py), of which it must say that nothing is judged.
 """
 import os
 import pathlib
@@ -14,13 +15,20 @@ import sys
 import tempfile
 
 import broken
+from layout import MOST_NUMBER, number, row, with_serials
 
 HOME = pathlib.Path(__file__).resolve().parent.parent
 LINE_L = (HOME / "crates" / "office" / "data" / "line.bin").read_bytes()
 MOST_LINE = 4096
 MOST_SESSION = 32768
 ROW = bytes([2, 5, 1])
+# File L in edition 2.
+LINE_SERIALS = row(with_serials(list(LINE_L), (70000, 0)))
 THREE_ROWS, THREE_ACCEPTED = bytes([2, 5, 1, 2, 5, 2, 2, 5, 3]), b"1 0\n2 0\n3 0\n"
+
+# The request's records with a large number (N7), each after its length.
+LARGE = b"".join(number(len(record)) + record for record in map(row, (
+    [5, 70000], [70000, 1], [1, 1, 70000, 2, 0, 3], [1, 1, 1, 2, 70000, 3], [1, 1, 1, 2, 0, 70000], [8, 70000, 1])))
 
 # A name, line.bin and session.bin (None: no such file), and what must be printed where the papers say it outright.
 CASES = [
@@ -45,8 +53,17 @@ CASES = [
     ("length 127", LINE_L, bytes([127]) + bytes(127) + ROW, b"1 10\n2 0\n"),
     ("length 127 cut", LINE_L, bytes([127]) + bytes(126), b"cut\n"),
     ("length 128", LINE_L, bytes([128, 1]) + bytes(128) + ROW, b"1 10\n2 0\n"),
-    ("length 65,535", LINE_L, ROW + bytes([255, 255, 3]) + bytes(1000), b"1 0\ncut\n"),
-    ("length 65,536", LINE_L, ROW + bytes([128, 128, 4]) + bytes(1000), b"1 0\ncut\n"),
+    *((f"length {length:,}", LINE_L, ROW + number(length) + bytes(1000), b"1 0\ncut\n")
+      for length in (65535, 65536, 70000, MOST_NUMBER)),
+    ("length 2,097,152, of four bytes", LINE_L, ROW + number(MOST_NUMBER + 1) + bytes(1000), b"1 0\ncut\n"),
+    ("length of three bytes, the last 0", LINE_L, ROW + bytes([240, 162, 0]) + bytes(1000), b"1 0\ncut\n"),
+    ("length 70,000 without its last byte", LINE_L, ROW + bytes([240, 162]), b"1 0\ncut\n"),
+    ("edition 2, four rows", LINE_SERIALS, bytes([2, 5, 1, 2, 5, 1, 2, 6, 1, 2, 5, 1]), b"1 0\n2 14\n3 0\n4 14\n"),
+    ("edition 2 without serials", bytes([2]) + LINE_L[1:], ROW, b"line 3\n"),
+    ("edition 3", bytes([3]) + LINE_L[1:], ROW, b"line 3\n"),
+    ("70,000 drivers", bytes([1]) + number(70000), ROW, b"line 3\n"),
+    *((f"large numbers, {name}", line, LARGE, b"1 11\n2 10\n3 10\n4 10\n5 11\n6 11\n")
+      for name, line in (("L", LINE_L), ("L in edition 2", LINE_SERIALS))),
 ]
 
 

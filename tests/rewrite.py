@@ -14,8 +14,9 @@ import sys
 import tempfile
 
 sys.dont_write_bytecode = True
-from layout import row  # noqa: E402
+from layout import MOST_DEVICES, MOST_SERIAL, row, with_serials  # noqa: E402
 from vectors import L, full_size  # noqa: E402
+from vectors_wide import wide_size  # noqa: E402
 
 MOST_LINE = 4096
 LINE_L = row(L)
@@ -23,6 +24,9 @@ LINE_L = row(L)
 OLDER = (None, b"", b"old", bytes(range(256)) * 20)
 # The device's hardcoded value names an external object.
 NAMES_EXTERNAL = row([1, 0, 1, 2, 1, 4, 2, 1, 3, 0, 0, 1, 1, 2, 1, 0])
+
+# Serials of one, two and three bytes.
+SERIALS = (0, 127, 128, 16383, 16384, 65536, 70000, MOST_SERIAL)
 
 # A name, line.bin (None: no such file), and what must be printed; where it is nothing, line.out is line.bin.
 CASES = [
@@ -33,7 +37,14 @@ CASES = [
     ("the largest line", full_size(), b""),
     ("cut", LINE_L[:-1], b"line 1\n"),
     ("a number in two bytes where one would do", bytes([129, 0]) + LINE_L[1:], b"line 2\n"),
-    ("edition 2", bytes([2]) + LINE_L[1:], b"line 3\n"),
+    ("edition 2 without serials", bytes([2]) + LINE_L[1:], b"line 3\n"),
+    ("edition 3", bytes([3]) + LINE_L[1:], b"line 3\n"),
+    ("edition 2, no devices", row([2, 0, 0, 0, 0]), b""),
+    *((f"L with the serial {serial:,}", row(with_serials(L, (0, serial))), b"") for serial in SERIALS),
+    ("L with serials, cut", row(with_serials(L, (70000, 0)))[:-1], b"line 1\n"),
+    ("L with a serial of four bytes", row(with_serials(L, (MOST_SERIAL + 1, 0))), b"line 2\n"),
+    ("the largest line of edition 2", row(with_serials(wide_size(), [MOST_SERIAL] * MOST_DEVICES)), b""),
+    ("65,536 values", row([1, 0, 0, 0, 65536]), b"line 3\n"),
     ("48 values", row([1, 0, 0, 0, 48] + [0] * 48), b"line 3\n"),
     ("a byte left over", LINE_L + b"\0", b"line 4\n"),
     ("L twice", LINE_L + LINE_L, b"line 4\n"),

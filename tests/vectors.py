@@ -6,11 +6,11 @@
 
 The cases are made here (those of the writer of files in vectors_write.py, of operation records in vectors_records.py,
 of wide lines in vectors_wide.py, of the first bad record in vectors_first.py, of ring cards in vectors_rings.py, of
-green zones in vectors_green.py, vectors_zones.py and vectors_far.py, of locks in vectors_locks.py) and judged
-elsewhere: answers and checksums are the reference's, by its program `vectors`. A named case states its answer, and if
-the reference gives another, nothing is written and the check fails. A case is a byte for what is called, its length in
-two bytes, lower byte first, and its bytes; its row is its place from 1, the answer, and a checksum of what the call
-left (0 where it leaves nothing) or, in 12, a second answer. What is called:
+green zones in vectors_green.py, vectors_zones.py and vectors_far.py, of locks in vectors_locks.py, of serials in
+vectors_serials.py) and judged elsewhere: answers and checksums are the reference's, by its program `vectors`. A named
+case states its answer, and if the reference gives another, nothing is written and the check fails. A case is a byte
+for what is called, its length in two bytes, lower byte first, and its bytes; its row is its place from 1, the answer,
+and a checksum of what the call left (0 where it leaves nothing) or, in 12, a second answer. What is called:
 
     1         the load check, on a file
     2, 5, 6   a fresh state of a file, in an area of the length that its line needs, a byte shorter or longer (as for
@@ -27,6 +27,8 @@ left (0 where it leaves nothing) or, in 12, a second answer. What is called:
     12        the first bad record of an area, in the form of 9; the second answer, which is stated too, is that to an
               operation on the area whose record is empty
     13        an operation: its record after its length in two bytes, and then a file and an area in the form of 9
+    14        the writer as in 11, with an edition in a byte and seventeen serials in four bytes each, lowest byte
+              first, before the counts; those of 7 and 11 are of edition 1, and their serials are 0
 """
 import os
 import pathlib
@@ -40,6 +42,7 @@ import vectors_green
 import vectors_locks
 import vectors_records
 import vectors_rings
+import vectors_serials
 import vectors_wide
 import vectors_write
 import vectors_zones
@@ -49,9 +52,9 @@ from layout import (AREA, DEVICES_FROM, DRIVERS_FROM, LOCKS_FROM, MOST_DEVICES, 
 TOP = pathlib.Path(__file__).resolve().parent.parent
 HOME = TOP / "crates" / "vectors"
 LOAD, FRESH, FORMED, OPERATION, FRESH_SHORT, FRESH_LONG, WRITE = 1, 2, 3, 4, 5, 6, 7
-FRESH_IN, CREATE_IN, STATE_BYTES, WRITE_WIDE, FIRST_BAD, OPERATE_IN = 8, 9, 10, 11, 12, 13
+FRESH_IN, CREATE_IN, STATE_BYTES, WRITE_WIDE, FIRST_BAD, OPERATE_IN, WRITE_SERIALS = 8, 9, 10, 11, 12, 13, 14
 # What the program `vectors` takes in.
-MOST_INPUT = 212992
+MOST_INPUT = 245760
 
 
 # Document 01's file L, whose numbers have one byte each, by groups.
@@ -95,7 +98,7 @@ def named_counts():
     yield "seven entries", row([1, 0, 0, 1, 1, 3, 0, 0, 7] + [1, 1, 0] * 7), 3
     yield "an empty file", b"", 1
     yield "edition 0", row([0, 0, 0, 0, 0]), 3
-    yield "edition 2", row([2, 0, 0, 0, 0]), 3
+    yield "edition 2", row([2, 0, 0, 0, 0]), 0
 
 
 def named_numbers():
@@ -110,9 +113,9 @@ def named_numbers():
     yield "nine bytes without a last one", bytes([0xFF] * 9), 1
     yield "nine bytes and a last one", bytes([0xFF] * 9 + [1]), 2
     yield "a number of 65,535", bytes([0xFF, 0xFF, 3]), 3
-    yield "a number of 65,536", bytes([0x80, 0x80, 4]), 2
-    yield "a number of 65,536 as the values' count", bytes([1, 0, 0, 0, 0x80, 0x80, 4]), 2
-    yield "a number of 2,097,151", bytes([0xFF, 0xFF, 0x7F]), 2
+    yield "a number of 65,536", bytes([0x80, 0x80, 4]), 3
+    yield "a number of 65,536 as the values' count", bytes([1, 0, 0, 0, 0x80, 0x80, 4]), 3
+    yield "a number of 2,097,151", bytes([0xFF, 0xFF, 0x7F]), 3
     yield "a byte left over", row(L) + b"\0", 4
     yield "a malformed byte left over", row(L) + b"\x80", 4
 
@@ -314,6 +317,18 @@ def lock_cases():
         yield case(label, FRESH_IN, two(length) + file, stated)
 
 
+def serial_cases():
+    yield from (case(label, LOAD, data, stated) for label, data, stated in vectors_serials.files(L))
+    yield from (case(label, OPERATION, record, stated) for label, record, stated in vectors_serials.records())
+    yield from operations(vectors_serials.calls(L))
+    yield from first_bad(vectors_serials.first_bad(L))
+    for label, file, length in vectors_serials.fresh(L):
+        yield case(f"fresh: {label}", FRESH_IN, two(length) + file, 0)
+        yield case(f"{label}: its area's length", STATE_BYTES, file, length)
+    for label, length, memory, stated in vectors_serials.writes(L):
+        yield case(label, WRITE_SERIALS, two(length) + bytes(memory).rstrip(b"\0"), stated)
+
+
 def cases():
     """In the order in which they came to be: the bytes of those that were there stay as they were, but for the lengths
     of areas."""
@@ -323,6 +338,7 @@ def cases():
     yield from ring_cases()
     yield from green_cases()
     yield from lock_cases()
+    yield from serial_cases()
 
 
 def reference_program(name):

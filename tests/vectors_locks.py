@@ -12,6 +12,8 @@ from vectors_wide import data
 from vectors_write import refused
 
 LOCK, UNLOCK, ENTER, LEAVE = 14, 15, 8, 11
+# A short record for each of the two.
+SHORT_LOCKS = {LOCK: [LOCK, 1], UNLOCK: [UNLOCK, 1]}
 LOCKED = 1
 FAR = 2000
 # As many devices as there may be, each with its hardcoded descriptor and nothing else, on a small line and a wide one.
@@ -176,9 +178,10 @@ def records():
     for code in (LOCK, UNLOCK):
         for device in (0, 1, MOST_DEVICES, MOST_DEVICES + 1, FAR, 65535):
             yield f"10: code {code}, device {device}", row([code, device]), 0
-        for name, record in (("device 65,536", row([code, 65536])), ("cut after 1 bytes", row([code])),
-                             ("cut in its device", row([code]) + b"\x81"), ("a byte left over", row([code, 1]) + b"\0"),
-                             ("a second device", row([code, 1, 2])), ("a device in two bytes", bytes([code, 0x81, 0])),
+        yield f"10: code {code}, device 65,536", row([code, 65536]), 0
+        for name, record in (("cut after 1 bytes", row([code])), ("cut in its device", row([code]) + b"\x81"),
+                             ("a byte left over", row([code, 1]) + b"\0"), ("a second device", row([code, 1, 2])),
+                             ("a device in two bytes", bytes([code, 0x81, 0])),
                              ("the code in two bytes", bytes([code + 128, 0, 1]))):
             yield f"10: code {code}, {name}", record, 10
     for code in (16, 17, 128 + LOCK):

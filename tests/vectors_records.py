@@ -25,7 +25,7 @@ def named():
     yield "10: seventeen raw bytes", row([1, 1, 1, 6, 1]) + RAW + b"\0", 10
     yield "10: a byte left over", row([5, 1]) + b"\0", 10
     yield "10: a number of 65,535", row([5, 65535]), 0
-    yield "10: a number of 65,536", row([5, 65536]), 10
+    yield "10: a number of 65,536", row([5, 65536]), 0
     for code, record in [(c, r) for c, r in SHORT.items()]:
         yield f"10: code {code}, whole", row(record), 0
         yield f"10: code {code}, a byte left over", row(record) + b"\0", 10

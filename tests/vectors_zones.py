@@ -51,7 +51,7 @@ def records():
     """Records by question 10 alone: label, bytes, answer."""
     for partition in (0, 1, LAST, PARTITIONS, 70, 65535):
         yield f"10: code 13, partition {partition}", row([13, partition]), 0
-    yield "10: code 13, partition 65,536", row([13, 65536]), 10
+    yield "10: code 13, partition 65,536", row([13, 65536]), 0
     yield "10: code 13, cut after 1 bytes", row([13]), 10
     yield "10: code 13, cut in its partition", row([13]) + b"\x81", 10
     yield "10: code 13, a byte left over", row([13, 1]) + b"\0", 10
