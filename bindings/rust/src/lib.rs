@@ -158,9 +158,10 @@ pub fn first_bad(line: &[u8], state: &[u8]) -> Result<Option<usize>, Refusal> {
     rewriting::number_told(answer).map(|place| (place > 0).then_some(place))
 }
 
-/// Loads a line file and writes the line that was loaded into `out`; an accepted file comes out byte for byte. Returns
-/// its length: so many bytes at the start of `out` are the file, and the rest of `out` is as it was. If the file is
-/// refused or `out` is too short, `out` is as it was. An empty `out` asks for the length.
+/// Loads a line file and writes the line that was loaded into `out`, in its own edition and with the cards' serials; an
+/// accepted file comes out byte for byte. (No other call looks at a serial.) Returns its length: so many bytes at the
+/// start of `out` are the file, and the rest of `out` is as it was. If the file is refused or `out` is too short, `out`
+/// is as it was. An empty `out` asks for the length.
 ///
 /// ```
 /// use sorter_gate::{LONGEST_LINE, RewriteError, rewrite};

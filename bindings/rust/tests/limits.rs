@@ -2,7 +2,7 @@
 
 mod common;
 
-use common::{FULL, fresh_of, number};
+use common::{FULL, MOST_SERIAL, fresh_of, number, with_serials};
 use sorter_gate::{ANSWER_BYTES, LONGEST_LINE, LONGEST_RECORD, code, fresh, load_check, operate, state_bytes};
 
 /// Every count at its limit; what is not hard-wired is external data.
@@ -21,10 +21,13 @@ fn last_of(records: &[&[u8]]) -> u32 {
     operate(&line, &mut state, last, &mut answer).err().map_or(0, |refusal| refusal.number())
 }
 
+/// Sixteen serials of three bytes each are what edition 1 does not have.
 #[test]
 fn the_longest_line_is_accepted_and_no_longer_one() {
-    let line = full_line();
+    let line = with_serials(&full_line(), |_| MOST_SERIAL);
     assert_eq!(line.len(), LONGEST_LINE);
+    assert_eq!(full_line().len(), LONGEST_LINE - 3 * 16);
+    assert_eq!(load_check(&full_line()), Ok(()));
     assert_eq!(load_check(&line), Ok(()));
     for byte in 0..=u8::MAX {
         assert!(load_check(&[&line[..], &[byte]].concat()).is_err());

@@ -49,9 +49,10 @@ fn a_refused_file_has_its_question_and_leaves_the_area() {
 
 #[test]
 fn the_smallest_and_the_longest_line_come_out_as_they_are() {
-    let longest = common::full_line(1, 2, 47);
+    let first = common::full_line(1, 2, 47);
+    let longest = common::with_serials(&first, |_| common::MOST_SERIAL);
     assert_eq!(longest.len(), LONGEST_LINE);
-    for line in [vec![1, 0, 0, 0, 0], common::data_line(127), common::data_line(128), longest] {
+    for line in [vec![1, 0, 0, 0, 0], common::data_line(127), common::data_line(128), first, longest] {
         assert_eq!(rewritten(&line, line.len() - 1).0, Err(RewriteError::Short(line.len())));
         assert_eq!(rewritten(&line, line.len()), (Ok(line.len()), line.clone()));
     }

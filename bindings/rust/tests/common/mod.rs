@@ -66,9 +66,31 @@ pub fn example(question: u32, name: &str) -> Vec<u8> {
     std::fs::read(path).expect("the example has the file")
 }
 
+/// The largest serial that a card can have, and the largest number that there can be.
+pub const MOST_SERIAL: u32 = 2_097_151;
+
 /// A number in its shortest form.
-pub fn number(n: u8) -> Vec<u8> {
-    if n < 128 { vec![n] } else { vec![n, n >> 7] }
+pub fn number(n: impl Into<u32>) -> Vec<u8> {
+    let (mut rest, mut bytes) = (n.into(), vec![]);
+    while rest >= 128 {
+        bytes.push(rest as u8 | 128);
+        rest >>= 7;
+    }
+    bytes.push(rest as u8);
+    bytes
+}
+
+/// A line file of edition 1 as one of edition 2, each card with the serial that it is given.
+pub fn with_serials(line: &[u8], serial: impl Fn(usize) -> u32) -> Vec<u8> {
+    let (cards, long) = (usize::from(line[2]), line[3] >= 128);
+    let objects = usize::from(line[3] & 127) + if long { 128 * usize::from(line[4]) } else { 0 };
+    let (head, rest) = line.split_at(5 + usize::from(long) + 3 * objects);
+    let mut out = [&[2], &head[1..]].concat();
+    for (place, value) in rest[..cards].iter().enumerate() {
+        out.push(*value);
+        out.extend(number(serial(place + 1)));
+    }
+    [&out[..], &rest[cards..]].concat()
 }
 
 /// A line of external data alone.
@@ -76,9 +98,9 @@ pub fn data_line(objects: u8) -> Vec<u8> {
     [&[1, 0, 0], &number(objects)[..], &[0], &[3, 0, 0].repeat(objects.into())].concat()
 }
 
-/// A line with every count at its limit: 16 drivers, 16 cards, 192 objects, 47 values of six entries each. The first 16
-/// objects are the cards' hard-wired descriptors, the rest is external, of the kind that is given; each entry names the
-/// last object, by the mode and put value that are given.
+/// A line of edition 1 with every count at its limit: 16 drivers, 16 cards, 192 objects, 47 values of six entries each.
+/// The first 16 objects are the cards' hard-wired descriptors, the rest is external, of the kind that is given; each
+/// entry names the last object, by the mode and put value that are given.
 pub fn full_line(kind: u8, mode: u8, put: u8) -> Vec<u8> {
     let mut line = [&[1, 16, 16], &number(FULL)[..], &[47]].concat();
     (1..=16).for_each(|card| line.extend([4, 2, card]));
