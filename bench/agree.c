@@ -6,7 +6,8 @@
 // objects kept in one by what 20 asks there besides; a line rewritten and its state area's length told with each kind
 // of answer, and an area of the other kind's length refused by 7; the first bad record of an area must be an
 // object's, an absent one's, and none, where question 9 is answered with yes and where it is not, by the lock bytes and
-// by the bytes before the records; and of eight calls at least one has a wide line. Otherwise nothing was compared.
+// by the bytes before the records; operations must be accepted and lines rewritten in both editions, with serials of
+// each length; and of eight calls at least one has a wide line. Otherwise nothing was compared.
 //   agree CALLS SEED   prints how many calls were compared; to be called in the repository's root
 #include <inttypes.h>
 #include <stdio.h>
@@ -20,7 +21,7 @@
 #include "plain/plain.h"
 #include "sorter_gate.h"
 
-enum { NUMBERS = 24, CODES = 16, KINDS = 3, SESSION = 64, ROOM = 4096, WIDE_IN = 8 };
+enum { NUMBERS = 24, CODES = 16, KINDS = 3, SESSION = 64, ROOM = 4096, WIDE_IN = 8, EDITIONS = SERIAL_EDITION + 1 };
 // The bytes of a state area before its records.
 enum { HEAD_BYTES = MOST_PARTITION + 1 + 2 * MOST_OWNERS };
 enum call { LOAD_CHECK, FRESH, OPERATE, REWRITE, STATE_LENGTH, FIRST_BAD };
@@ -36,10 +37,11 @@ struct areas {
 };
 
 // What was met on lines of one kind; by their codes, the records of drivers in green zones that were accepted, and
-// those that question 20 refused in a green zone and would not have refused in another one.
+// those that question 20 refused in a green zone and would not have refused in another one; by the line's edition, the
+// operations that were accepted; and by the bytes of the last card's serial, the lines that were rewritten.
 struct met {
     unsigned long calls, answered[CODES][NUMBERS], rewritten[KINDS], told[KINDS], other_length, found[FOUND];
-    unsigned long green[CODES], kept_green[CODES];
+    unsigned long green[CODES], kept_green[CODES], editions[EDITIONS], serials[NUMBER_BYTES + 1];
 };
 
 static struct areas by_library, by_plain;
@@ -166,6 +168,16 @@ static void count_green(struct met *met, uint64_t answer) {
                                            by_plain.answer, ROOM) != SORTER_GATE_IN_REACH;
 }
 
+// Counts what was done on a line of an edition, and with which serial.
+static void count_edition(struct met *met, enum call call, uint64_t answer) {
+    if (call == OPERATE && answer == 0) {
+        met->editions[line[EDITION_AT]]++;
+    } else if (call == REWRITE && SORTER_GATE_KIND(answer) == SORTER_GATE_DONE && line[DEVICES_AT]) {
+        const uint8_t *last = device_in_line(line, line[DEVICES_AT]);
+        met->serials[values_in_line(line) - last - 1]++;
+    }
+}
+
 // Counts an answer, by its kind where it has one, with the lines of its kind; whether the call is accepted. Asking for
 // the first bad record is not: a byte that was spoilt for it is put back.
 static int count(enum call call, uint64_t answer) {
@@ -185,6 +197,7 @@ static int count(enum call call, uint64_t answer) {
     if (call == OPERATE) {
         count_green(met, answer);
     }
+    count_edition(met, call, answer);
     return answer == 0;
 }
 
@@ -333,6 +346,12 @@ static void demand_all(const struct met *met, const char *lines) {
     }
     for (unsigned found = 0; found < FOUND; found++) {
         demand(met->found[found], lines, "a first bad record of the sort", found);
+    }
+    for (unsigned edition = FIRST_EDITION; edition < EDITIONS; edition++) {
+        demand(met->editions[edition], lines, "an accepted record on a line of edition", edition);
+    }
+    for (unsigned bytes = 0; bytes <= NUMBER_BYTES; bytes++) {
+        demand(met->serials[bytes], lines, "a rewriting of a last serial of so many bytes,", bytes);
     }
     demand(met->other_length, lines, "the other kind's area, refused by", SORTER_GATE_STATE_LENGTH);
     demand_codes(met, lines);

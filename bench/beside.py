@@ -6,13 +6,16 @@ import pathlib
 import full
 import lines
 import vectors
+from layout import MOST_SERIAL, with_serials
 from measure import TIMES, build, expect, one_call, run, write_case, write_files
 
 TOP = pathlib.Path(__file__).resolve().parent.parent
 PLAIN = sorted(str(path.relative_to(TOP)) for path in (TOP / "bench" / "plain").glob("*.c"))
 CHAINS = (1, 10, 40)
-# The largest files of lines of full size and of any.
+# The largest files of lines of full size and of any, in edition 1 and, with a serial of three bytes for each card, in
+# edition 2.
 FULL_FILE, LONGEST_FILE = "96 objects, all else at its limit", "every count at its limit"
+FULL_SERIALS, LONGEST_SERIALS = "96 objects, and 16 serials", "every count, and 16 serials"
 ORDERS = ("rising", "falling", "shuffled")
 # Generated calls that must agree before anything is counted: a gate that is wrong is no mark.
 AGREEING = 200000
@@ -20,6 +23,7 @@ RAW = bytes(range(16))
 # Rows that tests/ratios.py holds to bounds.
 GREEN_WRITE = "green: driver writes eight descriptors, dense"
 CREATING, LOCKING, UNLOCKING = "create a partition, dense", "lock a card, dense", "unlock a card, dense"
+LOADING, LOADING_SERIALS = "load check", "load check, serials of three bytes"
 # An answer that has a kind: the kind's words, and what it counts.
 DONE, SHORT, KIND_UNIT = 0, 2, 2 ** 32
 KINDS = {DONE: "done", SHORT: "short"}
@@ -111,7 +115,8 @@ def cases(size):
     last, data = len(dense.objects), dense.data
     write = vectors.row([1, 1, 1, last, 1]) + RAW
     copies = sum(([n, n + 1] for n in data[:-1]), [])
-    yield "load check", "load", dense, b"", "0"
+    yield LOADING, "load", dense, b"", "0"
+    yield LOADING_SERIALS, "load", full.mixed(**size).serialized(), b"", "0"
     yield "fresh state", "fresh", dense, b"", "0"
     yield "driver writes data, little active", "operate", little, write, "0"
     yield "driver writes data, dense", "operate", dense, write, "0"
@@ -131,6 +136,8 @@ def cases(size):
     yield from green_cases(size)
     yield from lock_cases(size)
     yield "rewrite the line", "rewrite", dense, b"", str(len(dense.file()))
+    serials = full.mixed(**size).serialized()
+    yield "rewrite the line, serials of three bytes", "rewrite", serials, b"", str(len(serials.file()))
     yield "first bad record, none, dense", "walk", dense, b"", "0"
 
 
@@ -144,14 +151,22 @@ def table(folder):
             print(f"{label:<56}{stated:>6}{plain:>10}{gate:>10}{gate / plain:>8.2f}")
 
 
+def full_serials():
+    """The largest file of a line of full size in edition 2, whose numbers have one byte each in edition 1."""
+    numbers = list(vectors.full_size())
+    return vectors.row(with_serials(numbers, [MOST_SERIAL] * numbers[2]))
+
+
 def rewrite_table(folder):
-    """Line files loaded and written again: document 01's, one of full size and the longest, into an area that is long
+    """Line files loaded and written again: document 01's, those of full size and the longest, into an area that is long
     enough and into none, which asks for the length."""
     made = program(folder)
-    line_l, large, longest = vectors.row(vectors.L), vectors.full_size(), full.longest()
+    line_l, large, longest = vectors.row(vectors.L), vectors.full_size(), full.longest().file()
+    serials, most = full_serials(), full.longest().serialized().file()
     cases = [("document 01's L", line_l, len(line_l), DONE), (FULL_FILE, large, len(large), DONE),
-             ("the same, with no area", large, 0, SHORT), (LONGEST_FILE, longest, len(longest), DONE),
-             ("the longest, with no area", longest, 0, SHORT)]
+             ("the same, with no area", large, 0, SHORT), (FULL_SERIALS, serials, len(serials), DONE),
+             (LONGEST_FILE, longest, len(longest), DONE), ("every count, with no area", longest, 0, SHORT),
+             (LONGEST_SERIALS, most, len(most), DONE), ("the longest file, with no area", most, 0, SHORT)]
     print(f"{'rewriting':<36}{'bytes':>6}{'answer':>8}{'plain C':>10}{'library':>10}{'ratio':>8}")
     for label, file, room, kind in cases:
         paths = write_files(folder, file, bytes(room), b"")

@@ -35,8 +35,9 @@ def mixed(devices=16, objects=96, values=47, seed=1):
 
 
 def longest():
-    """A file of the greatest length that can be accepted: every count at its limit, six entries in every value, and the
-    objects that they name have the largest numbers, of two bytes. A device's value reads what it owns."""
+    """The line whose file has the greatest length that can be accepted of its edition: every count at its limit, six
+    entries in every value, and the objects that they name have the largest numbers, of two bytes. A device's value
+    reads what it owns."""
     line = Line(**WIDE, drivers=WIDE["devices"])
     last = range(len(line.objects) - len(line.hardcoded) + 1, len(line.objects) + 1)
     for n, v in enumerate(line.values):
@@ -44,7 +45,7 @@ def longest():
         line.values[v] = [(named, READ, 0) if v in line.hardcoded else (named, BOTH, v)] * ENTRIES
     for c in line.hardcoded:
         line.hardcoded[c] = c
-    return line.file()
+    return line
 
 
 def little(**size):

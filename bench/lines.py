@@ -7,8 +7,8 @@ import random
 import sys
 
 sys.path.insert(0, str(pathlib.Path(__file__).resolve().parent.parent / "tests"))
-from layout import (DEVICES_FROM, DRIVERS_FROM, MOST_OBJECTS, SMALL_ROOM, area_of, locks_from, record_at,  # noqa: E402
-                    row)
+from layout import (DEVICES_FROM, DRIVERS_FROM, MOST_OBJECTS, MOST_SERIAL, SMALL_ROOM, area_of,  # noqa: E402
+                    locks_from, record_at, row, with_serials)
 
 READ, WRITE, BOTH = 1, 2, 3
 # Full size is what the constructors below take if nothing is said. It has as many objects as the shorter state area has
@@ -29,7 +29,7 @@ class Line:
     """A configuration with everything in partition 1, or in none if `inactive`, but the objects `elsewhere` and the
     drivers `strangers`, which are in 2, and what is `asleep`, a pair of class and owner, or a number for an external
     object, which is in none; objects are (kind, class, owner), and values lists of entries. Partition 1 is a green zone
-    if `green`; the devices `locked` are locked, and must be in none."""
+    if `green`; the devices `locked` are locked, and must be in none. A line that has `serials` is one of edition 2."""
 
     def __init__(self, drivers, devices, objects, values, last=False):
         """The hardcoded descriptors have the smallest numbers, or the largest if `last`."""
@@ -44,6 +44,7 @@ class Line:
         self.strangers = set()
         self.asleep = set()
         self.locked = set()
+        self.serials = []
         self.inactive = False
         self.green = False
 
@@ -57,7 +58,12 @@ class Line:
         numbers += self.hardcoded.values()
         for entries in self.values.values():
             numbers += [len(entries)] + sum((list(e) for e in entries), [])
-        return row(numbers)
+        return row(with_serials(numbers, self.serials) if self.serials else numbers)
+
+    def serialized(self):
+        """The line with a serial of three bytes for each device (request N7)."""
+        self.serials = [MOST_SERIAL - device for device in range(self.devices)]
+        return self
 
     def area(self):
         area = bytearray(area_of(len(self.objects)))

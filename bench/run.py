@@ -22,13 +22,17 @@ import vectors  # noqa: E402
 from measure import REFERENCE_TIMES, build, expect, one_call, write_case  # noqa: E402
 
 CHAINS = (1, 10, 40)
+# How many bytes a number has that never ends.
+ENDLESS = 65535
 
 
 def load_table(folder):
     program = build(f"{folder}/load", "gate", "bench/load.c", *beside.PLAIN)
     print(f"{'load check':<36}{'bytes':>6}{'answer':>8}{'plain C':>10}{'library':>10}{'ratio':>8}")
     cases = [("document 01's L", vectors.row(vectors.L), "0"), (beside.FULL_FILE, vectors.full_size(), "0"),
-             (beside.LONGEST_FILE, full.longest(), "0"), ("65,535 bytes, no last one", bytes([255] * 65535), "1")]
+             (beside.FULL_SERIALS, beside.full_serials(), "0"), (beside.LONGEST_FILE, full.longest().file(), "0"),
+             (beside.LONGEST_SERIALS, full.longest().serialized().file(), "0"),
+             (f"{ENDLESS:,} bytes, no last one", bytes([255] * ENDLESS), "1")]
     for label, data, stated in cases:
         file = pathlib.Path(folder) / "line.bin"
         file.write_bytes(data)

@@ -107,14 +107,15 @@ def states(size):
 
 def cases(size):
     """A line in a state, a record, and its answer; then a locked card, which is to come in, to be locked again and to
-    be unlocked; then a card with a ring comes in, which 21 searches, and at last come green zones, in which 22 is put
-    and 20 asks more."""
+    be unlocked; then a line with serials; then a card with a ring comes in, which 21 searches, and at last come green
+    zones, in which 22 is put and 20 asks more."""
     for place, line in enumerate(states(size)):
         for record, answers in records(line):
             yield line, record, answers[place]
     locked = full.without_device(locked=True, **size)
     for answer, *numbers in ((23, 8, locked.devices, 1), (23, 14, locked.devices), (0, 15, locked.devices)):
         yield locked, vectors.row(numbers), answer
+    yield lines.leaving(**size).serialized(), vectors.row([5, 3]), 0
     yield full.rings(**size), vectors.row([8, 1, 1]), 0
     ring = full.ring_links(40, **size)
     yield ring, vectors.row([8, ring.owner, 1]), 21

@@ -37,21 +37,27 @@ ROWS = ("full: load check", "full: driver writes data, dense", ENTERING, GREEN_W
         "quarter: card writes eight items, dense", "wide: load check", WIDE_WRITE)
 SLOWER = 1.1
 # Rows of the tables `load`, `search` and `parts`, and a difference of two calls, of which no ratio is kept.
-WIDE_LOAD, WIDE_SEARCH = "longest file: load check", "wide: search, dense"
+WIDE_LOAD, WIDE_SEARCH = "longest file of edition 1: load check", "wide: search, dense"
 QUESTION_9, WIDE_QUESTION_9 = "full: question 9, dense", "wide: question 9, dense"
 GREEN_LEAVING = "full: eight objects leave, dense, in a green zone more"
 # How much more locking or unlocking a card takes than creating a partition in the same state.
 LOCKS = {f"{name}: {label}, more than creating a partition": (size, label) for name, size in lines.SIZES
          for label in (beside.LOCKING, beside.UNLOCKING)}
+# How much more a load takes of a file with sixteen serials of three bytes than of the same line's file of edition 1.
+SERIALS = {"full: load check, 16 serials more": lambda: full.mixed(**lines.FULL),
+           "wide: load check, 16 serials more": lambda: full.mixed(**lines.WIDE),
+           "longest file: load check, 16 serials more": full.longest}
 # The instructions that the library may take, whatever the plain gate takes: for rewriting a line of full size, for a
 # card that comes in there, for a driver's write in a green zone, for what leaving one takes more than leaving another
-# zone, for what a lock takes more than the creating of a partition, for question 9 on a line of full size and on one of
-# 192 objects, and for a load, a search and a whole write on a line of 192 objects.
+# zone, for what a lock takes more than the creating of a partition, for what serials take more than none, for question
+# 9 on a line of full size and on one of 192 objects, and for a load, a search and a whole write on a line of 192
+# objects.
 MOST_REWRITE = 65000
 MOST_ENTERING = 95000
 MOST_GREEN_WRITE = 38000
 MOST_GREEN_LEAVING = 8000
 MOST_LOCK = 400
+MOST_SERIALS = 1600
 MOST_QUESTION_9 = 4500
 MOST_WIDE_QUESTION_9 = 2 * MOST_QUESTION_9
 MOST_WIDE_LOAD = 50000
@@ -60,7 +66,7 @@ MOST_WIDE_WRITE = 175000
 BOUNDS = {REWRITE: MOST_REWRITE, ENTERING: MOST_ENTERING, GREEN_WRITE: MOST_GREEN_WRITE,
           GREEN_LEAVING: MOST_GREEN_LEAVING, QUESTION_9: MOST_QUESTION_9, WIDE_QUESTION_9: MOST_WIDE_QUESTION_9,
           WIDE_LOAD: MOST_WIDE_LOAD, WIDE_SEARCH: MOST_WIDE_SEARCH, WIDE_WRITE: MOST_WIDE_WRITE,
-          **dict.fromkeys(LOCKS, MOST_LOCK)}
+          **dict.fromkeys(LOCKS, MOST_LOCK), **dict.fromkeys(SERIALS, MOST_SERIALS)}
 # Every call of a row is the same, so that few are enough.
 TIMES = 10
 
@@ -78,17 +84,29 @@ def measured():
 
 def bounded():
     """The library's instructions of the rows that have a bound alone: question 9 on dense lines, a load of the longest
-    file, in which all entries name objects by two bytes, a dense search, what a green zone asks of what leaves, and
-    locks."""
+    file, in which all entries name objects by two bytes, a dense search, what a green zone asks of what leaves, locks,
+    and serials."""
     with tempfile.TemporaryDirectory() as folder:
         made = search.program(folder)
-        count, answer = one_call(folder, made, *write_files(folder, full.longest(), b"", b""), "load", times=TIMES)
-        expect(WIDE_LOAD, "0", answer)
+        count = loading(folder, made, WIDE_LOAD, full.longest())
         label, line, stated = next(case for case in lines.searches() if case[0] == lines.DENSE_WIDE)
         return {WIDE_LOAD: count, WIDE_SEARCH: search.counted(folder, made, label, line, stated, times=TIMES)[1],
                 QUESTION_9: question_9(folder, lines.FULL), WIDE_QUESTION_9: question_9(folder, lines.WIDE),
                 GREEN_LEAVING: leaving_green(folder, made),
-                **{row: locking(folder, made, *case) for row, case in LOCKS.items()}}
+                **{row: locking(folder, made, *case) for row, case in LOCKS.items()},
+                **{row: reading_serials(folder, made, row, make) for row, make in SERIALS.items()}}
+
+
+def loading(folder, made, row, line):
+    """A load of the line's file."""
+    count, answer = one_call(folder, made, *write_files(folder, line.file(), b"", b""), "load", times=TIMES)
+    expect(row, "0", answer)
+    return count
+
+
+def reading_serials(folder, made, row, make):
+    """What the line's file takes more with serials than without."""
+    return loading(folder, made, row, make().serialized()) - loading(folder, made, row, make())
 
 
 def question_9(folder, size):
