@@ -250,21 +250,9 @@ static __attribute__((noinline)) void go_deep(struct call *call) {
     more[DEEP - 1] = more[0];
 }
 
-static uint64_t spoilt(struct call *call) {
+// The real call in the way that the fault is, if it is one of such a way.
+static void go_on_faulty(struct call *call) {
     const struct lent *record = &call->areas[2];
-    const struct lent *lent = faulty_area(call);
-    if (is("constant") || (is("always") && call->which == REWRITE)) {
-        return wanted_number();
-    }
-    if (is("refuse") && record->length > 0 && record->at[0] == wanted_number()) {
-        return SORTER_GATE_RECORD;
-    }
-    if (is("place") && record->length == 2 && record->at[1] == 3 && (uintptr_t)call->areas[0].at % PAGE == 0) {
-        return SORTER_GATE_RECORD;
-    }
-    if (lent) {
-        touch_beside(*lent);
-    }
     if (is("elsewhere")) {
         go_elsewhere(call);
     } else if (is("deep") || (is("deep-rewrite") && call->which == REWRITE)) {
@@ -281,6 +269,24 @@ static uint64_t spoilt(struct call *call) {
     } else {
         go_on(call);
     }
+}
+
+static uint64_t spoilt(struct call *call) {
+    const struct lent *record = &call->areas[2];
+    const struct lent *lent = faulty_area(call);
+    if (is("constant") || (is("always") && call->which == REWRITE)) {
+        return wanted_number();
+    }
+    if (is("refuse") && record->length > 0 && record->at[0] == wanted_number()) {
+        return SORTER_GATE_RECORD;
+    }
+    if (is("place") && record->length == 2 && record->at[1] == 3 && (uintptr_t)call->areas[0].at % PAGE == 0) {
+        return SORTER_GATE_RECORD;
+    }
+    if (lent) {
+        touch_beside(*lent);
+    }
+    go_on_faulty(call);
     if (lent) {
         change(*lent, kind_of(call));
     }
