@@ -113,7 +113,8 @@ enum sorter_gate_kind {
 /* end kinds */
 
 /*
- * Puts questions 1 to 6 to a line file. Changes nothing.
+ * Puts questions 1 to 6 to a line file. Changes nothing. A file of edition 2 has a serial for each card, which is put
+ * questions 1 to 3 like any number of it; beyond that no answer and no state depends on edition or serials.
  */
 uint32_t gate_load_check(const uint8_t *line, size_t line_len);
 
@@ -152,11 +153,10 @@ uint64_t gate_first_bad(const uint8_t *line, size_t line_len, const uint8_t *sta
 
 /*
  * Loads a line file and writes the line that was loaded into `out`, in its own edition and with the cards' serials: an
- * accepted file comes out byte for byte. (No other call looks at a serial.) The answer has a kind. Done: the first n
- * bytes of `out` are the file, n being the number, and every byte from n on is as it was. Refused: the number is the
- * first of questions 1 to 6 that is answered with no. Short: the file is accepted, and `out` has fewer bytes than the
- * number. Refused and short leave `out` as it was. An area of exactly n bytes is long enough, and one of 0 bytes asks
- * for n.
+ * accepted file comes out byte for byte. The answer has a kind. Done: the first n bytes of `out` are the file, n being
+ * the number, and every byte from n on is as it was. Refused: the number is the first of questions 1 to 6 that is
+ * answered with no. Short: the file is accepted, and `out` has fewer bytes than the number. Refused and short leave
+ * `out` as it was. An area of exactly n bytes is long enough, and one of 0 bytes asks for n.
  */
 uint64_t gate_rewrite(const uint8_t *line, size_t line_len, uint8_t *out, size_t out_len);
 
