@@ -36,8 +36,6 @@ LIMITS = {
     "bytes of session.bin": 32768,
     "partitions": 63,
     "a number": 2097151,
-    "edition": 2,
-    "a serial": 2097151,
 }
 # end limits
 
