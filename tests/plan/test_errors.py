@@ -197,13 +197,6 @@ class Spreadsheets(InFolder):
         self.assertIn("18 accepted, 4 refused", text)
 
 
-    def test_a_number_that_no_record_can_hold(self):
-        self.edit("visit.csv", "Lane table = text HEAVY TO 8,wrong", "#70000 = bytes 00,wrong")
-        text = plan("check", "examples/visit")[1]
-        self.assertIn("Can the move be read to its end?", text)
-        self.assertIn("No: The number 70000 is above 65,535.", text)
-
-
 class Statuses(InFolder):
     def test_usage(self):
         for arguments in ((), ("judge",), ("explain", "examples/visit"), ("explain", "examples/visit", "x"),

@@ -5,6 +5,8 @@ from . import wording as w
 from .table import squeezed
 
 CONTENT_WORDS = ("text", "bytes")
+# Digits of the largest number that a record can hold.
+MOST_DIGITS = len(str(w.LIMITS["a number"]))
 RESERVED = {"object": (), "value": (w.CLEARED,), "owner": (w.OWNERS[w.EXTERNAL],), "partition": ()}
 
 
@@ -22,7 +24,8 @@ def likely(name, known):
 def number_of(text):
     """The number in '#12'; None for anything else."""
     digits = text[1:]
-    return int(digits) if text[:1] == "#" and digits.isascii() and digits.isdigit() and len(digits) < 6 else None
+    plain = text[:1] == "#" and digits.isascii() and digits.isdigit()
+    return int(digits) if plain and len(digits) <= MOST_DIGITS else None
 
 
 def check_name(row, column, name, sort):

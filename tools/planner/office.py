@@ -84,10 +84,7 @@ def records(session):
     reader, count = Reader(session), 0
     try:
         while reader.at < len(session):
-            length = reader.number()
-            if length > w.LIMITS["a number"]:
-                return count, True
-            reader.raw(length)
+            reader.raw(reader.number())
             count += 1
     except Unreadable:
         return count, True

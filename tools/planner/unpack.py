@@ -10,7 +10,7 @@ class Unreadable(Exception):
 
 
 class Reader:
-    """The row of numbers, one after the other."""
+    """The row of numbers, one after the other. What breaks question 1 or 2 is not read."""
 
     def __init__(self, data):
         self.data, self.at = data, 0
@@ -26,6 +26,8 @@ class Reader:
             if byte < 128:
                 if number(value) != self.data[start:self.at]:
                     raise Unreadable("a number is not in its shortest form")
+                if value > w.LIMITS["a number"]:
+                    raise Unreadable("a number has more than three bytes")
                 return value
         raise Unreadable("it ends inside a number")
 
