@@ -5,6 +5,7 @@ import io
 import unicodedata
 
 CARDS = ["Prüfwaage", "Weichenstellgerät", "Etikettendrucker Süd", "Lesegerät Größe L", "Förderband Zubringer"]
+SERIALS = ["70000", "", "2097151", "0", "128"]
 DRIVERS = ["Bandsteuerung Übergabe", "Wartungsgerät Müller"]
 
 
@@ -86,3 +87,9 @@ def save(folder, form, only=None):
     for name, rows in tables().items():
         if only is None or name in only:
             (folder / name).write_bytes(saved(rows, FORMS[form]))
+
+
+def save_serials(folder, form):
+    """The table of the cards again, with their serials in a column behind the notes."""
+    rows = zip(tables()["cards.csv"], ["Serial", *SERIALS], strict=True)
+    (folder / "cards.csv").write_bytes(saved([(*row, serial) for row, serial in rows], FORMS[form]))

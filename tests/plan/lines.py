@@ -11,6 +11,8 @@ PARTITIONS = 3
 WIDE = (97, 128, 191, 192)
 # Of each card's objects in the largest line so many have numbers of two bytes.
 LARGEST = 4
+# Serials of one, two and three bytes, the first and last of each; 0 is none that is known.
+SERIALS = (0, 1, 127, 128, 16383, 16384, 65535, 65536, 2097151)
 
 
 def random_line(seed):
@@ -188,6 +190,12 @@ def largest_line():
                                                 Entry(objects - k, w.BOTH, values) for k in places))
     config.devices = {n: Device(f"C{n}", n) for n in range(1, cards + 1)}
     return config
+
+
+def with_serials(config, *serials):
+    """The line with these serials, card by card and then over again."""
+    given = {n: serials[(n - 1) % len(serials)] for n in config.devices}
+    return replace(config, devices={n: replace(one, serial=given[n]) for n, one in config.devices.items()})
 
 
 def random_visit(config, seed):

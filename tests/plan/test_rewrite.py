@@ -10,7 +10,7 @@ from pathlib import Path
 import german
 import sorters
 from common import PROGRAM, REWRITE, ROOT, InFolder, plan
-from lines import largest_line, random_line, wide_line
+from lines import SERIALS, largest_line, random_line, wide_line, with_serials
 from planner import office, pack, rewriting
 from planner.config import Config
 from planner.disk import FileError
@@ -22,8 +22,8 @@ from test_workbooks import SAVED, SUFFIXES, needs_libraries
 
 SEEDS, WIDE_SEEDS = 300, 40
 SIZES = (dict(), dict(cards=7, loose=2), sorters.LARGE, sorters.WIDE)
-# How long the longest line file is that is accepted.
-LONGEST = 1773
+# How long the longest line file is that is accepted, without serials and with them.
+LONGEST = (1773, 1821)
 # What a line.out held before: there is none, an empty one, one that is longer than any file.
 OLDER = (None, b"", b"\1" * 5000)
 # Programs that fail on a line that is accepted, where an older and longer line.out is; and a part of what tools/rewrite
@@ -108,9 +108,10 @@ class Lines(Rewrites):
 
     def test_the_smallest_and_the_largest(self):
         self.assertEqual(plan("new", "fresh")[0], 0)
-        smallest, largest = self.made("fresh", 0), pack.line_bytes(largest_line())
-        self.assertEqual((smallest, len(largest)), (pack.line_bytes(Config()), LONGEST))
-        for line in (smallest, largest):
+        smallest = self.made("fresh", 0)
+        largest = [pack.line_bytes(with_serials(largest_line(), serial)) for serial in (0, SERIALS[-1])]
+        self.assertEqual((smallest, *map(len, largest)), (pack.line_bytes(Config()), *LONGEST))
+        for line in (smallest, b"\2" + smallest[1:], *largest):
             self.given_back(line)
 
     def test_sorters_of_every_size(self):
@@ -124,11 +125,13 @@ class Lines(Rewrites):
         for seed in range(WIDE_SEEDS):
             with self.subTest(f"wide {seed}"):
                 self.given_back(pack.line_bytes(wide_line(seed)))
+                self.given_back(pack.line_bytes(with_serials(random_line(seed), *SERIALS[seed % len(SERIALS):], 1)))
 
     def test_imported_lines(self):
         """A line.bin made into tables, and these into a line.bin again."""
         configs = [sorters.small()[0], *(sorters.visit(**size).config for size in SIZES), largest_line()]
         configs += [random_line(seed) for seed in range(20)] + [wide_line(seed) for seed in range(4)]
+        configs += [with_serials(largest_line(), *SERIALS), with_serials(random_line(0), 0, SERIALS[-1])]
         for place, config in enumerate(configs):
             given, back = Path(f"given{place}.bin"), f"back{place}"
             given.write_bytes(pack.line_bytes(config))
@@ -158,7 +161,7 @@ class Lines(Rewrites):
     def test_bytes_that_no_table_makes(self):
         """Damaged files, as they may come from elsewhere, by the office program's number; an absent one is empty."""
         line = (self.visit / LINE).read_bytes()
-        for bad, number in ((b"", 1), (line[:-1], 1), (b"\x81\0" + line[1:], 2), (b"\2" + line[1:], 3),
+        for bad, number in ((b"", 1), (line[:-1], 1), (b"\x81\0" + line[1:], 2), (b"\3" + line[1:], 3),
                             (line + b"\0", 4)):
             self.assertEqual(office.judge(PROGRAM, bad, b"").refused_line, number)
             self.left_alone(bad, b"line %d\n" % number)

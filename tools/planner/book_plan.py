@@ -16,6 +16,8 @@ CHOICES = {
     **{(table, column): name for table in (VISIT, BRINGUP)
        for column, name in (("operation", "operations"), ("who", ACTORS), ("where", PARTITIONS))},
 }
+# The columns that have numbers in them.
+NUMBERS = (("partitions.csv", "number"), ("cards.csv", "serial"))
 
 
 def lists_of(config):
@@ -43,7 +45,7 @@ def page_of(name, lines):
     lines = [list(line) for line in lines] or [list(COLUMNS[name])]
     heading = headings(lines[0])
     choices = {at: CHOICES[(name, column)] for at, column in enumerate(heading) if (name, column) in CHOICES}
-    return Page(lines, choices, numbers=tuple(at for at, column in enumerate(heading) if column == "number"))
+    return Page(lines, choices, numbers=tuple(at for at, column in enumerate(heading) if (name, column) in NUMBERS))
 
 
 def pages_of(tables, plan=None):

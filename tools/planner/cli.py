@@ -314,5 +314,11 @@ def run_import(options):
     except unpack.Unreadable as fault:
         return fail(USAGE, f"{source}: {fault}")
     made = write_tables(folder, config, moves)
-    say([f"Made in {folder}: {', '.join(made)}"])
+    say([f"Made in {folder}: {', '.join(made)}"] + edition_lines(options.line, unpack.edition_of(data), config.edition))
     return fail(REFUSED, refusal) if verdict.refused_line else DONE
+
+
+def edition_lines(path, edition, kept):
+    """A note where tables do not keep a file's edition: one with serials is written only where there is a serial."""
+    return [] if kept == edition else [f"{path} is of edition {edition}, and no card in it has a serial: what check "
+                                       f"makes of these tables is of edition {kept}."]

@@ -6,9 +6,13 @@ from . import wording as w
 
 @dataclass(frozen=True)
 class Device:
-    """A device (document 01: card) and the value number of its hardcoded (hard-wired) descriptor."""
+    """A device (document 01: card): the value number of its hardcoded (hard-wired) descriptor, and its serial.
+
+    Serial 0 is none that is known.
+    """
     name: str
     hardcoded: int
+    serial: int = 0
 
 
 @dataclass(frozen=True)
@@ -51,6 +55,11 @@ class Config:
     objects: dict = field(default_factory=dict)
     values: dict = field(default_factory=dict)
     partitions: dict = field(default_factory=dict)
+
+    @property
+    def edition(self):
+        """The edition of its line file: the first unless it has serials, so that plans without any keep their bytes."""
+        return w.SERIAL_EDITION if any(device.serial for device in self.devices.values()) else w.PLAIN_EDITION
 
     def entries(self, value):
         """The entries of a value; value 0 has none."""

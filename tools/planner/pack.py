@@ -18,10 +18,11 @@ def row_of(numbers):
 
 def line_bytes(config):
     """The line file of a configuration; whether it is accepted is for the program to say."""
-    numbers = [w.EDITION, len(config.drivers), len(config.devices), len(config.objects), len(config.values)]
+    numbers = [config.edition, len(config.drivers), len(config.devices), len(config.objects), len(config.values)]
     for one in config.objects.values():
         numbers += [one.kind, one.owner_class, one.owner]
-    numbers += [device.hardcoded for device in config.devices.values()]
+    for device in config.devices.values():
+        numbers += [device.hardcoded, device.serial] if config.edition == w.SERIAL_EDITION else [device.hardcoded]
     for value in config.values.values():
         numbers.append(len(value.entries))
         for entry in value.entries:

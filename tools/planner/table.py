@@ -81,8 +81,9 @@ class Table:
         return headings(self.lines[0]) if self.lines else []
 
 
-def read_table(path, columns, optional=False):
-    """The table of a file. Columns may stand in any order; further ones are the planner's own."""
+def read_table(path, columns, further=(), optional=False):
+    """The table of a file. Columns may stand in any order; those of `further` may be absent, and any others are the
+    planner's own."""
     path = Path(path)
     with disk.told("read", path):
         there = path.exists()
@@ -95,7 +96,7 @@ def read_table(path, columns, optional=False):
         lines, form = sheet.split(text, form, lambda heading: len(missing(heading, columns)))
     except sheet.SheetError as fault:
         raise TableError(path.name, fault.row, None, str(fault)) from None
-    return make_table(path.name, path.name, lines, form, columns)
+    return make_table(path.name, path.name, lines, form, columns, further)
 
 
 def headings(cells):
@@ -107,7 +108,7 @@ def missing(heading, columns):
     return [column for column in columns if column not in there]
 
 
-def read_sheet(book, sheets, table, columns, optional=False):
+def read_sheet(book, sheets, table, columns, further=(), optional=False):
     """The table that is a sheet of a workbook."""
     name = sheet_name(table)
     place = f"{book.name}, sheet {name}"
@@ -115,23 +116,24 @@ def read_sheet(book, sheets, table, columns, optional=False):
         if optional:
             return Table([], 1)
         raise TableError(place, None, None, "is not there")
-    return make_table(table, place, sheets[name], sheet.Form(), columns)
+    return make_table(table, place, sheets[name], sheet.Form(), columns, further)
 
 
-def make_table(table, name, lines, form, columns):
+def make_table(table, name, lines, form, columns, further):
     """The table of rows of cells, the first of which is the heading; `name` is what faults call it."""
     heading = headings(lines[0]) if lines else []
     for column in missing(heading, columns):
         tried = ", ".join(sheet.SEPARATORS.values())
         raise TableError(name, 1, column, f"is missing; the heading must have: {', '.join(columns)} "
                                           f"(tried between the columns: {tried})")
-    for column in columns:
+    known = columns + further
+    for column in known:
         if heading.count(column) > 1:
             raise TableError(name, 1, column, "stands in the heading twice")
     check_widths(name, heading, lines)
     rows = [Row(name, number, dict(zip(heading, cells)), table) for number, cells in enumerate(lines[1:], 2)]
-    rows = [row for row in rows if any(row.text(column) for column in columns)]
-    gather(rows, lambda row: check_seen(row, columns))
+    rows = [row for row in rows if any(row.text(column) for column in known)]
+    gather(rows, lambda row: check_seen(row, known))
     return Table(rows, max(len(lines), 1), form, lines)
 
 

@@ -1,5 +1,5 @@
 """The tables of a folder into a configuration with its names, and a configuration back into tables."""
-from dataclasses import dataclass, field
+from dataclasses import dataclass, field, replace
 from pathlib import Path
 
 from . import disk
@@ -20,6 +20,8 @@ COLUMNS = {
     VISIT: ("operation", "who", "where", "what"),
     BRINGUP: ("operation", "who", "where", "what"),
 }
+# Columns that a table may have beside these, and need not.
+FURTHER = {"cards.csv": ("serial",)}
 OPTIONAL = ("partitions.csv", BRINGUP)
 OF_LINE = [name for name in COLUMNS if name not in (VISIT, BRINGUP)]
 NOTE = "note"
@@ -63,7 +65,7 @@ def open_tables(folder, names):
     sheets = read_book(book) if book else {}
     for name in names:
         try:
-            known = COLUMNS[name], name in OPTIONAL
+            known = COLUMNS[name], FURTHER.get(name, ()), name in OPTIONAL
             tables[name] = read_sheet(book, sheets, name, *known) if book else read_table(Path(folder) / name, *known)
         except TableError as fault:
             faults.append(fault)
@@ -72,18 +74,35 @@ def open_tables(folder, names):
     return tables
 
 
+def whole_number(text, least, most):
+    """The number that a cell has in digits alone, if it is one from `least` to `most`; else None."""
+    digits = text.lstrip("0") or "0" if text.isascii() and text.isdigit() else ""
+    return int(digits) if 0 < len(digits) <= len(str(most)) and least <= int(digits) <= most else None
+
+
 def take_partitions(line, rows):
     def take(row):
         text = row.needed("number")
-        if not (text.isascii() and text.isdigit() and 1 <= int(text) <= w.LIMITS["partitions"]):
+        number = whole_number(text, 1, w.LIMITS["partitions"])
+        if number is None:
             raise row.fault("number", f"'{text}' is not a number from 1 to {w.LIMITS['partitions']}")
         if row.text("partition").isdigit():
             raise row.fault("partition", f"'{row.text('partition')}' is a number; a name has a letter in it")
-        if int(text) in line.config.partitions:
-            raise row.fault("number", f"{text} is already partition '{line.config.partitions[int(text)]}'")
-        line.config.partitions[int(text)] = line.partitions.add(row, "partition", int(text))
+        if number in line.config.partitions:
+            raise row.fault("number", f"{text} is already partition '{line.config.partitions[number]}'")
+        line.config.partitions[number] = line.partitions.add(row, "partition", number)
 
     gather(rows, take)
+
+
+def read_serial(row):
+    """The serial in a card's row, as large as a number of line.bin can be; 0 where there is none."""
+    text, most = row.text("serial"), w.LIMITS["a number"]
+    serial = whole_number(text or "0", 0, most)
+    if serial is None:
+        raise row.fault("serial", f"'{text}' is not a number from 0 to {most:,} in digits alone; leave it empty where "
+                                  "none is known")
+    return serial
 
 
 def take_owners(line, drivers, cards):
@@ -93,7 +112,7 @@ def take_owners(line, drivers, cards):
 
     def take_card(row):
         number = len(line.config.devices) + 1
-        line.config.devices[number] = Device(line.owners.add(row, "card", (w.DEVICE, number)), 0)
+        line.config.devices[number] = Device(line.owners.add(row, "card", (w.DEVICE, number)), 0, read_serial(row))
 
     gather(drivers, take_driver)
     gather(cards, take_card)
@@ -160,7 +179,7 @@ def take_hardcoded(line, rows):
         return find_value(line, row, "hard-wired value", row.needed("hard-wired value"))
 
     for number, value in enumerate(gather(rows, take), 1):
-        line.config.devices[number] = Device(line.config.devices[number].name, value)
+        line.config.devices[number] = replace(line.config.devices[number], hardcoded=value)
 
 
 def table_rows(config, moves):
@@ -181,16 +200,22 @@ def table_rows(config, moves):
     return {
         "partitions.csv": [(name, number) for number, name in config.partitions.items()],
         "drivers.csv": [(name,) for name in config.drivers.values()],
-        "cards.csv": [(device.name, config.value(device.hardcoded)) for device in config.devices.values()],
+        "cards.csv": [(device.name, config.value(device.hardcoded), device.serial or "")
+                      for device in config.devices.values()],
         "objects.csv": [(one.name, SHORT_KINDS[one.kind], owner(one)) for one in config.objects.values()],
         "values.csv": [row for value in config.values.values() for row in entry_rows(value)],
         VISIT: [move_cells(config, move) for move in moves],
     }
 
 
+def heading_of(name):
+    """The heading of a table that is made: all columns that it may have, and one for notes."""
+    return COLUMNS[name] + FURTHER.get(name, ()) + (NOTE,)
+
+
 def write_tables(folder, config, moves=()):
     """Writes all tables but the bring-up into a folder, each with a column for notes; none may be there already."""
-    made = {name: encode([COLUMNS[name] + (NOTE,)] + [tuple(row) + ("",) for row in rows], Form())
+    made = {name: encode([heading_of(name)] + [tuple(row) + ("",) for row in rows], Form())
             for name, rows in table_rows(config, moves).items()}
     put_fresh(folder, made)
     return list(made)

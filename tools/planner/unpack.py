@@ -39,17 +39,24 @@ class Reader:
         return self.data[self.at - count:self.at]
 
 
+def edition_of(data):
+    """The edition of a line file."""
+    edition = Reader(data).number()
+    if edition not in w.EDITIONS:
+        raise Unreadable(f"it is of edition {edition}; this tool reads {' and '.join(map(str, w.EDITIONS))}")
+    return edition
+
+
 def read_line_bytes(data):
-    """The configuration in a line file."""
-    reader = Reader(data)
-    edition, drivers, devices, objects, values = (reader.number() for _ in range(5))
-    if edition != w.EDITION:
-        raise Unreadable(f"it is of edition {edition}; this tool reads edition {w.EDITION}")
+    """The configuration in a line file. Of an edition 2 file its serials are kept, and the edition only by them."""
+    edition, reader = edition_of(data), Reader(data)
+    _, drivers, devices, objects, values = (reader.number() for _ in range(5))
     config = Config(drivers={n: f"D{n}" for n in range(1, drivers + 1)})
     for n in range(1, objects + 1):
         config.objects[n] = Object(f"O{n}", reader.number(), reader.number(), reader.number())
     for n in range(1, devices + 1):
-        config.devices[n] = Device(f"C{n}", reader.number())
+        hardcoded = reader.number()
+        config.devices[n] = Device(f"C{n}", hardcoded, reader.number() if edition == w.SERIAL_EDITION else 0)
     for n in range(1, values + 1):
         entries = tuple(Entry(reader.number(), reader.number(), reader.number()) for _ in range(reader.number()))
         config.values[n] = Value(f"V{n}", entries)

@@ -20,7 +20,8 @@ MODE_VERBS = {READ: "reads", WRITE: "writes", BOTH: "reads and writes"}
 CLEARED = "cleared"
 CONTENT_BYTES = 16
 VALUE_FORM, RAW_FORM = 0, 1
-EDITION = 1
+# The editions of line.bin: the first, and the one in which each card's serial stands.
+EDITIONS = PLAIN_EDITION, SERIAL_EDITION = 1, 2
 ACCEPTED = 0
 
 # begin limits: made by tests/tables from tables/numbers.ini
