@@ -10,10 +10,11 @@ from .book_plan import book_tables, put_table, store_book
 from .chain import BrokenChain
 from .config import Config
 from .judged import judge_folder
+from .line_faults import file_findings
 from .page import page_html
 from .picture import draw, picture_name
 from .repair import Search
-from .report import ANSWER_COLUMNS, answer_rows, check_lines, explain_lines, refused_whole
+from .report import ANSWER_COLUMNS, answer_rows, check_lines, explain_lines, refused_whole, sentence
 from .sheet import encode
 from .table import TableError, TableErrors
 from .tables import put_fresh, write_tables
@@ -304,7 +305,8 @@ def run_import(options):
     if verdict.too_long:
         return fail(REFUSED, f"{options.line}: too long (the program printed 'long')")
     if 0 < verdict.refused_line < w.FIRST_OF_TABLES:
-        return fail(REFUSED, refusal)
+        found = [f"No: {sentence(text)}" for text in file_findings(data, verdict.refused_line)]
+        return fail(REFUSED, " ".join([refusal, *found]))
     source = options.line
     try:
         config, moves = unpack.read_line_bytes(data), []

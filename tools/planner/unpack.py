@@ -6,7 +6,11 @@ from .visit import Item, Move, Pair
 
 
 class Unreadable(Exception):
-    """A file that cannot be taken apart; the message says where."""
+    """A file that cannot be taken apart; the message says why, and of a number also by which question."""
+
+    def __init__(self, message, question=None):
+        super().__init__(message)
+        self.question = question
 
 
 class Reader:
@@ -25,11 +29,11 @@ class Reader:
             shift += 7
             if byte < 128:
                 if number(value) != self.data[start:self.at]:
-                    raise Unreadable("a number is not in its shortest form")
+                    raise Unreadable("a number is not in its shortest form", 2)
                 if value > w.LIMITS["a number"]:
-                    raise Unreadable("a number has more than three bytes")
+                    raise Unreadable("a number has more than three bytes", 2)
                 return value
-        raise Unreadable("it ends inside a number")
+        raise Unreadable("it ends inside a number", 1)
 
     def raw(self, count):
         """So many bytes as they are."""
