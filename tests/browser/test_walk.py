@@ -9,7 +9,7 @@ from pathlib import Path
 import sorters
 from common import PROGRAM, ROOT
 from devtools import Browser
-from lines import mailbox_line, mailbox_visit
+from lines import mailbox_line, mailbox_visit, with_serials
 from planner import wording as w
 from planner.judged import judge_folder, judge_moves
 from planner.page import page_html
@@ -27,7 +27,9 @@ SHOWN = """(() => {
         row.querySelector(".held").firstChild.textContent];
   const locked = [...document.querySelectorAll(".group .padlock")].map((one) =>
     one.parentElement.querySelector(".name").textContent);
-  return { places, locked, stop: document.getElementById("slider").value, changed: lit("changed"),
+  const serials = [...document.querySelectorAll(".group .serial")].map((one) =>
+    [one.parentElement.querySelector(".name").textContent, one.textContent]);
+  return { places, locked, serials, stop: document.getElementById("slider").value, changed: lit("changed"),
     failed: lit("failed") };
 })()"""
 LIT = "[...document.querySelectorAll('.object.{}')].map((one) => Number(one.dataset.object)).sort((a, b) => a - b)"
@@ -43,8 +45,8 @@ GREEN_ZONES = "[...document.querySelectorAll('.partition.green h3')].map((one) =
 
 
 def plans():
-    """Plans on lines of 5, 40, 96 and 192 objects, the example, also with its loop green and with a padlock, one with
-    rings, one with long names; each named."""
+    """Plans on lines of 5, 40, 96 and 192 objects, the example, also with its loop green, with a padlock and with
+    serials, one with rings, one with long names; each named."""
     config, moves = sorters.small()
     yield "small", judge_moves(PROGRAM, config, moves)
     for name, size in (("middle", dict(cards=7, loose=2)), ("large", sorters.LARGE), ("wide", sorters.WIDE)):
@@ -57,6 +59,7 @@ def plans():
     turns = [(11, 1), (14, 1), (8, 1, 1), (14, 2), (15, 1), (8, 1, 1)]
     yield "locked", judge_moves(PROGRAM, example.config, moves[:9] + [Move(row, *turn) for row, turn in
                                                                      enumerate(turns, 11)])
+    yield "serials", judge_moves(PROGRAM, with_serials(example.config, 70000, 0, 2097151), moves)
     yield "rings", judge_moves(PROGRAM, mailbox_line(), mailbox_visit(1, 2))
     config, moves = sorters.small()
     config.drivers[1], config.partitions[1] = "Sortieranlagensteuerung" * 4, "Paketverteilzentrum" * 5
@@ -114,6 +117,8 @@ class Walk(unittest.TestCase):
                                      contents(config, n, state)] for n in config.objects}
         self.assertEqual(shown["places"], wanted, where)
         self.assertEqual(sorted(shown["locked"]), sorted(config.actor(w.DEVICE, n) for n in state.locked), where)
+        self.assertEqual(sorted(shown["serials"]), sorted([config.actor(w.DEVICE, n), f"serial {one.serial}"]
+                                                          for n, one in config.devices.items() if one.serial), where)
         if step and step.accepted:
             changed = {n for n in config.objects if step.after.contents[n] != step.before.contents[n]}
             self.assertLessEqual(changed, set(shown["changed"]), where)

@@ -108,6 +108,11 @@ class Config:
         """A partition with the word before its name: 'partition Live loop', 'partition 3'."""
         return f"partition {self.partitions.get(number, number)}"
 
+    def serial(self, owner_class, number):
+        """A card's serial in words, 'serial 70000'; nothing where none is known, and for who is no card."""
+        known = owner_class == w.DEVICE and number in self.devices and self.devices[number].serial
+        return f"serial {known}" if known else ""
+
     def actor(self, owner_class, number):
         """A driver or device with its class: 'card Scale'."""
         return f"{w.OWNERS[owner_class]} {self.driver(number) if owner_class == w.DRIVER else self.device(number)}"

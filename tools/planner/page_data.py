@@ -44,6 +44,7 @@ def page_data(plan):
     return {
         "drivers": list(config.drivers.values()),
         "cards": [device.name for device in config.devices.values()],
+        "serials": [config.serial(w.DEVICE, number) for number in config.devices],
         "objects": [[one.name, one.kind, one.owner_class, one.owner] for one in config.objects.values()],
         "partitions": {number: config.partition(number) for number in there},
         "held": held,

@@ -128,9 +128,12 @@ def track_row(plan, track, count):
         end = stay.left.place - first if stay.left else count + 1
         bars.append(bar_html(plan, track, stay, 100 * begin / (count + 1), 100 * (end - begin) / (count + 1)))
     name = escape(bare_name(plan.config, track))
+    serial = plan.config.serial(track.sort, track.number)
+    beside = " " + element("span", serial, class_="serial") if serial else ""
     note = "" if track.back else element("span", " not back", class_="late")
     lane = "".join(bars) if bars else element("span", NOWHERE, class_="never")
-    return element("tr", element("th", name + note, scope="row") + element("td", element("div", lane, class_="lane")))
+    head = element("th", name + beside + note, scope="row")
+    return element("tr", head + element("td", element("div", lane, class_="lane")))
 
 
 def bar_html(plan, track, stay, left, width):

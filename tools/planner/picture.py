@@ -17,6 +17,8 @@ ZONE_COLOURS = {"plain": ("#f8fafc", "#94a3b8"), "green": ("#dff3e3", "#2e9e4f")
 GREEN_ZONE = "green zone"
 # The padlock of a card that is locked, its word, and what the legend says of it.
 LOCK_COLOUR, LOCKED, LOCK_LEGEND, LOCK_WIDTH = "#8a4b00", "locked", "locked: nothing brings the card in", 19
+# A card's serial is written smaller than its name.
+SERIAL_SIZE = 10
 GROUP_COLOURS = {w.DRIVER: ("#d8ecd9", "#2f6b36"), w.DEVICE: ("#d6e4f7", "#1d4e89"), w.EXTERNAL: ("#ece7dc", "#6b5d3c")}
 # How an arrow is drawn by what its entry does, and what the legend says of it.
 LOOKS = {w.READ: {}, w.WRITE: dict(stroke_dasharray="6 4"), w.BOTH: dict(stroke_dasharray="14 4 3 4")}
@@ -135,10 +137,11 @@ def draw_group(config, group, marks, colour):
     hot = (group.owner_class, group.owner) in marks
     x, width = group.x, COLUMN - 2 * PAD
     title = "external objects" if group.owner_class == w.EXTERNAL else config.actor(group.owner_class, group.owner)
+    serial = config.serial(group.owner_class, group.owner)
     body = [box(x, group.y, width, group.height, rx=6, fill="#ffffff", stroke=colour if hot else dark,
                 stroke_width=2.2 if hot else 1),
             box(x + 1, group.y + 1, width - 2, HEADER - 4, rx=5, fill=light),
-            label(x + 9, group.y + 17, title, 12.5, title_room(group, width), font_weight="bold", fill=dark)]
+            label(x + 9, group.y + 17, title, 12.5, title_room(group, serial, width), font_weight="bold", fill=dark)]
     right = x + width - 10
     if group.folded:
         count = f"{len(group.spots)} object{'' if len(group.spots) == 1 else 's'}"
@@ -146,14 +149,19 @@ def draw_group(config, group, marks, colour):
         right -= text_width(count, 11) + 8
     if group.locked:
         body += draw_lock(right, group.y + 16.5)
+        right -= text_width(LOCKED, 11) + LOCK_WIDTH + 8
+    if serial:
+        body.append(label(right, group.y + 16.5, serial, SERIAL_SIZE, text_anchor="end", fill=dark))
     for spot in () if group.folded else group.spots:
         body += draw_spot(config, spot, width, ("object", spot.object) in marks, colour)
     return body
 
 
-def title_room(group, width):
-    """How wide the name of a driver or card may be, beside a count and a padlock."""
-    return width - 100 - (text_width(LOCKED, 11) + LOCK_WIDTH if group.locked and group.folded else 0)
+def title_room(group, serial, width):
+    """How wide the name of a driver or card may be: there is room for one thing beside it, and there may be a count, a
+    padlock and a serial."""
+    room = width - 100 - (text_width(LOCKED, 11) + LOCK_WIDTH if group.locked and group.folded else 0)
+    return room - (text_width(serial, SERIAL_SIZE) + 8 if serial and (group.locked or group.folded) else 0)
 
 
 def draw_lock(right, y):

@@ -33,11 +33,29 @@ def line_summary(plan):
     config = plan.config
     counts = [plural(len(config.drivers), "driver"), plural(len(config.devices), "card"),
               plural(len(config.objects), "object"), plural(len(config.values), "value")]
-    lines = [f"Line: {', '.join(counts)}; line.bin has {plural(len(plan.line), 'byte')}."]
+    edition = "" if config.edition == w.PLAIN_EDITION else f", in edition {config.edition}"
+    lines = [f"Line: {', '.join(counts)}; line.bin has {plural(len(plan.line), 'byte')}{edition}."]
+    lines += serial_lines(config)
     if plan.bringup and plan.bringup.rows:
         lines.append(f"Bring-up: {plural(len(plan.bringup.rows), 'move')}{bringup_verdict(plan)}.")
     size = plural(len(plan.session), 'byte')
     return lines + [f"Visit: {plural(len(plan.table.rows), 'move')}; session.bin has {size}."]
+
+
+def serial_lines(config):
+    """Which card has which serial, if any is known; and a note for a serial that stands with several cards."""
+    cards = {}
+    for device in config.devices.values():
+        cards.setdefault(device.serial, []).append(device.name)
+    without = cards.pop(0, [])
+    if not cards:
+        return []
+    known = "; ".join(f"{device.name} = {device.serial}" for device in config.devices.values() if device.serial)
+    lines = wrap(f"{known}{'; none for ' + ', '.join(without) if without else ''}.", "Serials: ", " " * 9)
+    for serial, names in cards.items():
+        if len(names) > 1:
+            lines += wrap(f"Serial {serial} stands with {len(names)} cards: {', '.join(names)}.", "", "    ")
+    return lines
 
 
 def bringup_verdict(plan):

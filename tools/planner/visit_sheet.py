@@ -25,7 +25,7 @@ def visit_sheet(plan, name):
     parts += ['<div class="signs"><span>Date</span><span>Technician</span><span>Released by</span></div>']
     parts += [f"<p class=\"no\">Of the bring-up, {escape(step.move.spot)} is refused by question {step.answer}: "
               f"{escape(move_words(plan.config, step.move))}.</p>" for step in plan.failed_bringup]
-    parts += [steps_table(plan, f"{name}: {verdict}"), zones(plan), fingerprint_words(plan)]
+    parts += [steps_table(plan, f"{name}: {verdict}"), zones(plan), *serials(plan.config), fingerprint_words(plan)]
     return "\n".join(page_head(f"Visit sheet: {name}", refused) + parts + ["</body>", "</html>", ""])
 
 
@@ -76,6 +76,16 @@ def zones(plan):
         table = ["<table><tbody>", *rows, "</tbody></table>"] if rows else ["<p>None.</p>"]
         parts += [f"<h2>{title}</h2>", f"<p>{what}</p>", *table]
     return "\n".join(parts)
+
+
+def serials(config):
+    """The serial that each card must bear; nothing where none is known."""
+    if config.edition == w.PLAIN_EDITION:
+        return []
+    rows = [f"<tr><td>{escape(device.name)}</td><td>{device.serial or 'not known'}</td></tr>"
+            for device in config.devices.values()]
+    return ["<h2>Serials of the cards</h2>", "<p>A card that bears another serial than here was swapped: tell who made "
+            "the plan.</p>", "<table><tbody>", *rows, "</tbody></table>"]
 
 
 def fingerprint_words(plan):

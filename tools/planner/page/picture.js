@@ -20,9 +20,10 @@ function groupsIn(state, partition) {
     .filter((n) => data.objects[n - 1][2] === sort && data.objects[n - 1][3] === number);
   for (const [sort, name, names] of [[DRIVER, "driver", data.drivers], [CARD, "card", data.cards]])
     names.forEach((text, place) => {
-      const locked = sort === CARD && state.lock[place + 1] > 0;
+      const locked = sort === CARD && state.lock[place + 1] > 0, serial = sort === CARD ? data.serials[place] : "";
       if (state[name][place + 1] === partition)
-        groups.push({ name, number: place + 1, text: name + " " + text, objects: owned(sort, place + 1), locked });
+        groups.push({ name, number: place + 1, text: name + " " + text, objects: owned(sort, place + 1), locked,
+          serial });
     });
   const loose = owned(EXTERNAL, 0).filter((n) => state.object[n] === partition);
   if (loose.length) groups.push({ name: "external", number: partition, text: "external objects", objects: loose });
@@ -107,7 +108,9 @@ function drawGroup(scene, group, fold) {
   const shown = shownObjects(scene, group, fold), open = isOpen(group, fold);
   const count = group.objects.length + (group.objects.length === 1 ? " object" : " objects");
   const padlock = group.locked ? make("span", "padlock", "locked") : "";
-  const owner = make("button", "owner", make("span", "name", group.text), padlock, make("span", "count", count));
+  const serial = group.serial ? [" ", make("span", "serial", group.serial)] : [];
+  const who = make("span", "who", make("span", "name", group.text), ...serial);
+  const owner = make("button", "owner", who, padlock, make("span", "count", count));
   owner.type = "button";
   owner.id = "owner-" + group.name + "-" + group.number;
   owner.setAttribute("aria-expanded", String(open));
