@@ -134,12 +134,12 @@ class Manual(InFolder):
         rows = re.findall(r"^\| ([a-z][^|]*) \| ([\d,]+) \|$", self.text, re.MULTILINE)
         names = {"drivers": "drivers", "cards": "cards", "objects": "objects", "values": "values",
                  "entries of a value": "entries of a value", "partitions, by number": "partitions",
-                 "items, pairs or objects in one move": "items of a move",
+                 "items, pairs or objects in one move": "items of a move", "a card's serial": "a number",
                  "bytes of `session.bin`": "bytes of session.bin"}
         wanted = {name: w.LIMITS[limit] for name, limit in names.items()}
         wanted["bytes of what an object holds"] = w.CONTENT_BYTES
         self.assertEqual({name: int(most.replace(",", "")) for name, most in rows}, wanted)
-        told = {"bytes of line.bin", "a number", "objects of a small line"}
+        told = {"bytes of line.bin", "objects of a small line"}
         self.assertEqual(set(w.LIMITS) - set(names.values()), told)
         self.assertIn(f"`long` if the file has more than {w.LIMITS['bytes of line.bin']:,} bytes", self.text)
         most = w.LIMITS["items of a move"]
