@@ -1,7 +1,8 @@
 //! The configuration (document 01: line) and its file: questions 1 to 6, put in the order of the file's numbers.
 
 use crate::limits::{
-    EDITION, MAX_DEVICES, MAX_DRIVERS, MAX_ENTRIES, MAX_OBJECTS, MAX_VALUES, SMALL_ROOM, area_bytes, room_for,
+    FIRST_EDITION, LAST_EDITION, MAX_DEVICES, MAX_DRIVERS, MAX_ENTRIES, MAX_NUMBER, MAX_NUMBER_BEFORE, MAX_OBJECTS,
+    MAX_SERIAL, MAX_VALUES, SERIALS_FROM, SMALL_ROOM, area_bytes, room_for,
 };
 use crate::varint::{Fault, Reader};
 use std::ops::RangeInclusive;
@@ -90,16 +91,28 @@ impl Entry {
 }
 
 /// A loaded configuration. Number n stands at place n - 1 of each list; value 0 stands in none.
-#[derive(Clone, Debug, Default, PartialEq, Eq)]
+#[derive(Clone, Debug, PartialEq, Eq)]
 pub struct Config {
+    /// The edition of its file.
+    pub edition: usize,
     /// D.
     pub drivers: usize,
     /// The objects 1 to N.
     pub objects: Vec<Object>,
     /// The value number of each device's hardcoded descriptor, for devices 1 to V.
     pub hardcoded: Vec<usize>,
+    /// The serial of each device (request N7), 0 where none is known. It decides nothing.
+    pub serials: Vec<usize>,
     /// The descriptor values 1 to K.
     pub values: Vec<Vec<Entry>>,
+}
+
+/// Nothing at all, in the first edition.
+impl Default for Config {
+    fn default() -> Self {
+        let (objects, hardcoded, serials, values) = (Vec::new(), Vec::new(), Vec::new(), Vec::new());
+        Config { edition: FIRST_EDITION, drivers: 0, objects, hardcoded, serials, values }
+    }
 }
 
 impl Config {
@@ -167,30 +180,59 @@ impl Config {
 
 /// Loads a configuration file, or gives the number of the first question that is answered with no.
 pub fn load(line: &[u8]) -> Result<Config, u8> {
-    load_with(hardcoded_values_fit, line)
+    load_by(&RULES, line)
 }
 
 /// A question about a whole configuration, answered with yes or no.
 pub type Question = fn(&Config) -> bool;
 
+/// What a device's numbers are read by: the configuration so far, V and K; its hardcoded value number and its serial.
+pub type ReadDevice = fn(&mut Reader, &Config, usize, usize) -> Result<(usize, usize), u8>;
+
+/// What loading goes by where the papers have changed, or a fault is made.
+#[derive(Clone, Copy, Debug)]
+pub struct Rules {
+    /// The largest number that question 2 passes.
+    pub most_number: usize,
+    pub last_edition: usize,
+    pub device: ReadDevice,
+    pub question_6: Question,
+}
+
+/// The papers' rules.
+pub const RULES: Rules = Rules {
+    most_number: MAX_NUMBER,
+    last_edition: LAST_EDITION,
+    device: read_device,
+    question_6: hardcoded_values_fit,
+};
+
+/// Those of before there were serials (request N7).
+pub const RULES_BEFORE: Rules = Rules { most_number: MAX_NUMBER_BEFORE, last_edition: FIRST_EDITION, ..RULES };
+
 /// The same with question 6 of the caller's choice.
 pub fn load_with(question_6: Question, line: &[u8]) -> Result<Config, u8> {
-    let mut reader = Reader::new(line);
-    let config = read_config(&mut reader)?;
+    load_by(&Rules { question_6, ..RULES }, line)
+}
+
+/// The same by rules of the caller's choice.
+pub fn load_by(rules: &Rules, line: &[u8]) -> Result<Config, u8> {
+    let mut reader = Reader::up_to(rules.most_number, line);
+    let config = read_config(rules, &mut reader)?;
     if !reader.at_end() {
         return Err(4);
     }
     if !hardcoded_owners_fit(&config) {
         return Err(5);
     }
-    if !question_6(&config) {
+    if !(rules.question_6)(&config) {
         return Err(6);
     }
     Ok(config)
 }
 
 /// A number and the three questions put to it: 1, 2 and 3.
-fn field(reader: &mut Reader, range: RangeInclusive<usize>) -> Result<usize, u8> {
+pub fn field(reader: &mut Reader, range: RangeInclusive<usize>) -> Result<usize, u8> {
     let number = reader.number().map_err(|fault| match fault {
         Fault::Cut => 1,
         Fault::Form => 2,
@@ -198,18 +240,20 @@ fn field(reader: &mut Reader, range: RangeInclusive<usize>) -> Result<usize, u8>
     if range.contains(&number) { Ok(number) } else { Err(3) }
 }
 
-fn read_config(reader: &mut Reader) -> Result<Config, u8> {
-    field(reader, EDITION..=EDITION)?;
+fn read_config(rules: &Rules, reader: &mut Reader) -> Result<Config, u8> {
+    let edition = field(reader, FIRST_EDITION..=rules.last_edition)?;
     let drivers = field(reader, 0..=MAX_DRIVERS)?;
     let devices = field(reader, 0..=MAX_DEVICES)?;
     let objects = field(reader, 0..=MAX_OBJECTS)?;
     let values = field(reader, 0..=MAX_VALUES)?;
-    let mut config = Config { drivers, ..Config::default() };
+    let mut config = Config { edition, drivers, ..Config::default() };
     for _ in 0..objects {
         config.objects.push(read_object(reader, drivers, devices)?);
     }
     for _ in 0..devices {
-        config.hardcoded.push(field(reader, 0..=values)?);
+        let (hardcoded, serial) = (rules.device)(reader, &config, devices, values)?;
+        config.hardcoded.push(hardcoded);
+        config.serials.push(serial);
     }
     for _ in 0..values {
         let count = field(reader, 0..=MAX_ENTRIES)?;
@@ -227,6 +271,13 @@ fn read_object(reader: &mut Reader, drivers: usize, devices: usize) -> Result<Ob
         _ => Owner::Device(field(reader, 1..=devices)?),
     };
     Ok(Object { kind, owner })
+}
+
+/// A device's hardcoded value number, and its serial in the editions that have one.
+fn read_device(reader: &mut Reader, config: &Config, _: usize, values: usize) -> Result<(usize, usize), u8> {
+    let hardcoded = field(reader, 0..=values)?;
+    let serial = if config.edition >= SERIALS_FROM { field(reader, 0..=MAX_SERIAL)? } else { 0 };
+    Ok((hardcoded, serial))
 }
 
 fn read_entry(reader: &mut Reader, config: &Config, values: usize) -> Result<Entry, u8> {

@@ -1,8 +1,13 @@
-//! The limits of document 01 and of requests N2 and N6, each named once. Nothing else in this package writes one of
+//! The limits of document 01 and of requests N2, N6 and N7, each named once. Nothing else in this package writes one of
 //! these numbers down.
 
-/// The edition of a configuration file.
-pub const EDITION: usize = 1;
+/// The editions of a configuration file: the first one, and the last, which gives each device a serial (request N7).
+pub const FIRST_EDITION: usize = 1;
+pub const LAST_EDITION: usize = 2;
+/// The first edition in which devices have serials.
+pub const SERIALS_FROM: usize = 2;
+/// A serial is at most this; 0 is none.
+pub const MAX_SERIAL: usize = MAX_NUMBER;
 /// D, V, N and K of a configuration file are at most these.
 pub const MAX_DRIVERS: usize = 16;
 pub const MAX_DEVICES: usize = 16;
@@ -20,9 +25,12 @@ pub const MAX_PARTITION: usize = 63;
 /// Items, pairs or objects in one operation record, from 1.
 pub const MAX_COUNT: usize = 8;
 
-/// A number has at most this many bytes, and at most this size (question 2).
+/// A number has at most this many bytes, and at most this size (question 2), which is what so many groups of seven bits
+/// hold.
 pub const MAX_NUMBER_BYTES: usize = 3;
-pub const MAX_NUMBER: usize = 65_535;
+pub const MAX_NUMBER: usize = 2_097_151;
+/// The size of before there were serials.
+pub const MAX_NUMBER_BEFORE: usize = 65_535;
 /// The largest number that has one byte.
 pub const MAX_ONE_BYTE: usize = 127;
 

@@ -1,7 +1,7 @@
 //! Operations (document 01: operation records): taken apart from bytes (question 10), what they name, and put down as
 //! bytes again.
 
-use crate::limits::{CONTENT_BYTES, MAX_COUNT};
+use crate::limits::{CONTENT_BYTES, MAX_COUNT, MAX_NUMBER};
 use crate::state::Contents;
 use crate::tokens;
 use crate::varint::Reader;
@@ -57,7 +57,12 @@ pub enum Operation {
 
 /// Takes a record apart; nothing if it cannot be read to its last byte, or a byte is left over (question 10).
 pub fn read(record: &[u8]) -> Option<Operation> {
-    let mut reader = Reader::new(record);
+    read_up_to(MAX_NUMBER, record)
+}
+
+/// The same with another limit of numbers than the papers'.
+pub fn read_up_to(most: usize, record: &[u8]) -> Option<Operation> {
+    let mut reader = Reader::up_to(most, record);
     let operation = read_operation(&mut reader)?;
     reader.at_end().then_some(operation)
 }

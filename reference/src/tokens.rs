@@ -2,7 +2,7 @@
 //! the bytes when a file or record is written, and where the generator breaks them.
 
 use crate::config::Config;
-use crate::limits::EDITION;
+use crate::limits::SERIALS_FROM;
 use crate::operation::{Operation, Put};
 use crate::varint;
 
@@ -28,19 +28,32 @@ pub fn row(numbers: &[usize]) -> Vec<u8> {
     encode(&numbers.iter().map(|number| Token::Number(*number)).collect::<Vec<_>>())
 }
 
-/// The numbers of a configuration's file, in the order of the file.
+/// The numbers of a configuration's file, in the order of the file and in the configuration's own edition.
 pub fn of_config(config: &Config) -> Vec<Token> {
-    let mut row = vec![EDITION, config.drivers, config.devices(), config.objects.len(), config.values.len()];
+    let mut row = vec![config.edition, config.drivers, config.devices(), config.objects.len(), config.values.len()];
     for object in &config.objects {
         let (class, owner) = object.owner.numbers();
         row.extend([object.kind.number(), class, owner]);
     }
-    row.extend(&config.hardcoded);
+    for (hardcoded, serial) in config.hardcoded.iter().zip(&config.serials) {
+        row.push(*hardcoded);
+        row.extend((config.edition >= SERIALS_FROM).then_some(serial));
+    }
     for value in &config.values {
         row.push(value.len());
         value.iter().for_each(|entry| row.extend([entry.object, entry.mode, entry.stored]));
     }
     row.into_iter().map(Token::Number).collect()
+}
+
+/// The numbers before the objects in a file, those of an object, and those of a device in an edition with serials.
+const FIRST_NUMBERS: usize = 5;
+const OBJECT_NUMBERS: usize = 3;
+const DEVICE_NUMBERS: usize = 2;
+
+/// The place, from 0, of a device's serial among the numbers of a file with so many objects, in an edition that has one.
+pub fn serial_place(objects: usize, device: usize) -> usize {
+    FIRST_NUMBERS + OBJECT_NUMBERS * objects + DEVICE_NUMBERS * device - 1
 }
 
 /// The tokens of an operation's record.

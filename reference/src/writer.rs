@@ -1,7 +1,10 @@
 //! The writer of configuration files (request N1): questions 3, 5 and 6, put to a configuration in memory that may hold
 //! anything, and then its file, put into an area.
 
-use crate::limits::{EDITION, MAX_DEVICES, MAX_DRIVERS, MAX_ENTRIES, MAX_OBJECTS, MAX_VALUES};
+use crate::limits::{
+    FIRST_EDITION, LAST_EDITION, MAX_DEVICES, MAX_DRIVERS, MAX_ENTRIES, MAX_OBJECTS, MAX_SERIAL, MAX_VALUES,
+    SERIALS_FROM,
+};
 use crate::memory::{ENTRY_BYTES, Memory};
 use crate::varint;
 
@@ -72,20 +75,32 @@ fn refusal(memory: &Memory) -> Option<u8> {
     QUESTIONS.into_iter().find(|(_, question)| !question(memory)).map(|(number, _)| number)
 }
 
-/// The file's bytes, for a configuration that question 3 has passed.
+/// The file's bytes in the configuration's own edition, for one that question 3 has passed.
 fn file(memory: &Memory) -> Vec<u8> {
-    let mut numbers = vec![EDITION as u8, memory.drivers, memory.devices, memory.objects, memory.values];
-    for object in objects(memory) {
-        numbers.extend([memory.kind[object], memory.class[object], memory.owner[object]]);
-    }
-    numbers.extend(devices(memory).map(|device| memory.hardcoded[device]));
-    for value in values(memory) {
-        numbers.push(memory.count[value]);
-        numbers.extend(memory.entries_of(value).flatten());
-    }
     let mut out = Vec::new();
-    numbers.into_iter().for_each(|number| varint::write(usize::from(number), &mut out));
+    let mut put = |number: u32| varint::write(number as usize, &mut out);
+    let counts = [memory.edition, memory.drivers, memory.devices, memory.objects, memory.values];
+    counts.into_iter().for_each(|count| put(u32::from(count)));
+    for object in objects(memory) {
+        let parts = [memory.kind[object], memory.class[object], memory.owner[object]];
+        parts.into_iter().for_each(|part| put(u32::from(part)));
+    }
+    for device in devices(memory) {
+        put(u32::from(memory.hardcoded[device]));
+        if has_serials(memory) {
+            put(memory.serials[device]);
+        }
+    }
+    for value in values(memory) {
+        put(u32::from(memory.count[value]));
+        memory.entries_of(value).flatten().for_each(|part| put(u32::from(part)));
+    }
     out
+}
+
+/// Whether the configuration is of an edition that gives each device a serial (request N7).
+fn has_serials(memory: &Memory) -> bool {
+    usize::from(memory.edition) >= SERIALS_FROM
 }
 
 fn objects(memory: &Memory) -> impl Iterator<Item = usize> {
@@ -104,12 +119,18 @@ fn values(memory: &Memory) -> impl Iterator<Item = usize> {
 fn fields_fit(memory: &Memory) -> bool {
     counts_fit(memory)
         && objects(memory).all(|object| object_fits(memory, object))
-        && devices(memory).all(|device| memory.hardcoded[device] <= memory.values)
+        && devices(memory).all(|device| memory.hardcoded[device] <= memory.values && serial_fits(memory, device))
         && values(memory).all(|value| value_fits(memory, value))
 }
 
+/// A serial is at most the largest one, and 0 in an edition that has none.
+fn serial_fits(memory: &Memory, device: usize) -> bool {
+    memory.serials[device] as usize <= if has_serials(memory) { MAX_SERIAL } else { 0 }
+}
+
 fn counts_fit(memory: &Memory) -> bool {
-    usize::from(memory.drivers) <= MAX_DRIVERS
+    (FIRST_EDITION..=LAST_EDITION).contains(&usize::from(memory.edition))
+        && usize::from(memory.drivers) <= MAX_DRIVERS
         && usize::from(memory.devices) <= MAX_DEVICES
         && usize::from(memory.objects) <= MAX_OBJECTS
         && usize::from(memory.values) <= MAX_VALUES

@@ -86,11 +86,11 @@ fn no_other_code_looks_at_a_lock() {
 fn records_of_codes_14_and_15() {
     for code in [14, 15] {
         let mut desk = Desk::new(&file_l());
-        for rest in [&[][..], &[1, 0], &[1, 1], &[128], &[129, 0], &[129, 128, 0], &[255, 255, 255, 1], &[128, 128, 4]]
+        for rest in [&[][..], &[1, 0], &[1, 1], &[128], &[129, 0], &[129, 128, 0], &[255, 255, 255, 1], &[128, 128, 0]]
         {
             assert_eq!(desk.record(&[&[code][..], rest].concat()), 10, "{code} {rest:?}");
         }
-        for card in [0, 3, 16, 17, 127, 128, 2_000, 65_535] {
+        for card in [0, 3, 16, 17, 127, 128, 2_000, 65_535, 65_536, 2_097_151] {
             assert_eq!(desk.numbers(&[usize::from(code), card]), 11, "{code} {card}");
         }
     }

@@ -27,7 +27,7 @@ fn question_1_wherever_the_file_ends() {
 fn question_2_at_every_number() {
     for place in 0..45 {
         let now = file_l()[place];
-        for bad in [&[now | 128, 0][..], &[128, 128, 4], &[now | 128, 128, 128, 1], &[now | 128, 128, 0]] {
+        for bad in [&[now | 128, 0][..], &[255, 255, 0], &[now | 128, 128, 128, 1], &[now | 128, 128, 0]] {
             assert_eq!(load_check(&l_with(place, bad)), 2, "{place} {bad:?}");
         }
     }
@@ -36,7 +36,7 @@ fn question_2_at_every_number() {
 #[test]
 fn question_3_at_every_field() {
     // The first number out of range of each field of L, in the order of the file.
-    let counts = [2, 17, 17, 193, 48];
+    let counts = [3, 17, 17, 193, 48];
     let objects = [5, 3, 3].repeat(6);
     let mut beyond: Vec<usize> = [&counts[..], &objects, &[6, 6]].concat();
     for stored in [1, 1, 1, 6, 6] {
@@ -49,7 +49,9 @@ fn question_3_at_every_field() {
     for (place, number) in [(0, 0), (5, 0), (7, 0), (26, 0), (27, 0)] {
         assert_eq!(load_check(&l_with(place, &[number])), 3, "{place}");
     }
-    assert_eq!(load_check(&l_with(44, &[255, 255, 3])), 3);
+    for number in [65_535, 65_536, 70_000, 2_097_151] {
+        (0..45).for_each(|place| assert_eq!(load_check(&l_with(place, &row(&[number]))), 3, "{place} {number}"));
+    }
 }
 
 #[test]
@@ -223,7 +225,7 @@ fn question_10_by_codes_numbers_counts_and_forms() {
         &[13, 131, 0],
         &[141, 0, 3],
         &[5, 131, 0],
-        &[5, 128, 128, 4],
+        &[5, 131, 128, 0],
         &[5, 129, 128, 128, 0],
         &[1, 1, 0],
         &[1, 1, 1, 2, 2, 0],

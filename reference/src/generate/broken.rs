@@ -3,8 +3,8 @@
 use super::rings;
 use super::rng::Rng;
 use super::worlds::World;
-use crate::config::{Config, Entry, Kind, Object, Owner, load};
-use crate::limits::{MAX_NUMBER, MAX_OBJECTS, MAX_ONE_BYTE, SMALL_ROOM};
+use crate::config::{Config, Entry, Kind, Object, Owner, load_by};
+use crate::limits::{MAX_NUMBER, MAX_NUMBER_BEFORE, MAX_OBJECTS, MAX_ONE_BYTE, SMALL_ROOM};
 use crate::operation::Operation;
 use crate::tokens::{self, Token};
 use crate::varint;
@@ -12,8 +12,8 @@ use crate::varint;
 /// How often a malformed file is made anew when it does not get the number that is wanted.
 const TRIES: usize = 6;
 
-/// A form of a number that question 2 refuses: four bytes, not the shortest, or above 65,535.
-pub fn bad_number(rng: &mut Rng, number: usize) -> Vec<u8> {
+/// A form of a number that question 2 refuses: four bytes, not the shortest, or above what is passed at the most.
+pub fn bad_number(rng: &mut Rng, number: usize, most: usize) -> Vec<u8> {
     let mut bytes = Vec::new();
     match rng.below(6) {
         0 => {
@@ -24,9 +24,10 @@ pub fn bad_number(rng: &mut Rng, number: usize) -> Vec<u8> {
         }
         1 => bytes.extend([128 + (number % 128) as u8, 128, 0]),
         2 => bytes.extend([128 + (number % 128) as u8, 128, 128, rng.between(0, 1) as u8]),
-        3 => varint::write(MAX_NUMBER + 1, &mut bytes),
-        4 => varint::write(rng.between(MAX_NUMBER + 1, 2_097_151), &mut bytes),
-        _ => varint::write(rng.between(2_097_152, 1 << 40), &mut bytes),
+        3 => varint::write(most + 1, &mut bytes),
+        4 if most < MAX_NUMBER => varint::write(rng.between(most + 1, MAX_NUMBER), &mut bytes),
+        4 => bytes.extend([128 + rng.below(128) as u8, 128 + rng.below(128) as u8, 0]),
+        _ => varint::write(rng.between(MAX_NUMBER + 1, 1 << 40), &mut bytes),
     }
     bytes
 }
@@ -45,13 +46,13 @@ pub fn line(rng: &mut Rng, world: &World, number: u8) -> Vec<u8> {
             return line;
         }
     }
-    first_that(|line| load(line).err() == Some(number), || attempt(rng, world, number))
+    first_that(|line| load_by(world.rules(), line).err() == Some(number), || attempt(rng, world, number))
 }
 
 /// The same for the cases that were stored before devices had rings, which are to stay as they are: a file in which a
 /// hardcoded value writes a descriptor was refused by 6 then, and is accepted now.
 pub fn line_of_before(rng: &mut Rng, world: &World, number: u8) -> Vec<u8> {
-    let refused = |line: &[u8]| match load(line) {
+    let refused = |line: &[u8]| match load_by(world.rules(), line) {
         Err(refusal) => refusal == number,
         Ok(config) => number == 6 && config.has_rings(),
     };
@@ -81,8 +82,8 @@ fn attempt(rng: &mut Rng, world: &World, number: u8) -> Vec<u8> {
             }
             bytes
         }
-        2 => with_bad_number(rng, tokens, place),
-        3 => out_of_range(rng, tokens, place),
+        2 => with_bad_number(rng, tokens, place, world.rules().most_number),
+        3 => out_of_range(rng, tokens, place, world),
         4 => {
             let count = rng.between(1, 5);
             [world.line.clone(), rng.bytes(count)].concat()
@@ -92,24 +93,30 @@ fn attempt(rng: &mut Rng, world: &World, number: u8) -> Vec<u8> {
     }
 }
 
-fn with_bad_number(rng: &mut Rng, mut tokens: Vec<Token>, place: usize) -> Vec<u8> {
+fn with_bad_number(rng: &mut Rng, mut tokens: Vec<Token>, place: usize, most: usize) -> Vec<u8> {
     let number = match tokens[place] {
         Token::Number(number) => number,
         Token::Bytes(_) => 0,
     };
-    tokens[place] = Token::Bytes(bad_number(rng, number));
+    tokens[place] = Token::Bytes(bad_number(rng, number, most));
     tokens::encode(&tokens)
 }
 
-/// Numbers that are out of range in some field.
-const BEYOND: [usize; 10] = [0, 2, 4, 5, 7, 17, 48, MAX_OBJECTS + 1, 128, 65_535];
+/// Numbers that are out of range in some field; those behind the first ten come with serials (request N7).
+const BEYOND: [usize; 14] =
+    [0, 2, 4, 5, 7, 17, 48, MAX_OBJECTS + 1, 128, MAX_NUMBER_BEFORE, 3, MAX_NUMBER_BEFORE + 1, LARGE, MAX_NUMBER];
+const BEYOND_BEFORE: usize = 10;
+
+/// A number of the kind that was refused by 2 before there were serials.
+pub const LARGE: usize = 70_000;
 
 /// Sets one number to what its field, or most fields, cannot be.
-fn out_of_range(rng: &mut Rng, mut tokens: Vec<Token>, place: usize) -> Vec<u8> {
+fn out_of_range(rng: &mut Rng, mut tokens: Vec<Token>, place: usize, world: &World) -> Vec<u8> {
+    let beyond = if world.serials { &BEYOND[..] } else { &BEYOND[..BEYOND_BEFORE] };
     let place = if rng.percent(40) { place.min(rng.below(8)) } else { place };
     let number = match (rng.below(3), &tokens[place]) {
         (0, Token::Number(number)) => *number + 1,
-        (1, _) => BEYOND[rng.below(BEYOND.len())],
+        (1, _) => beyond[rng.below(beyond.len())],
         _ => rng.between(0, 100),
     };
     tokens[place] = Token::Number(number);
@@ -178,49 +185,58 @@ fn break_hardcoded(rng: &mut Rng, config: &mut Config) {
     }
 }
 
-/// Codes that nobody knows, those of before there were locks (request N6), and those of before there were green zones
-/// (request N5).
-pub const NO_CODES: [usize; 5] = [0, 16, 17, 128, 65_535];
-const NO_CODES_BEFORE_LOCKS: [usize; 5] = [0, 14, 15, 128, 65_535];
-const NO_CODES_BEFORE_GREENS: [usize; 5] = [0, 13, 14, 128, 65_535];
+/// Codes that nobody knows, those of before there were serials (request N7), those of before there were locks (N6), and
+/// those of before there were green zones (N5).
+const NO_CODES: [usize; 8] = [0, 16, 17, 128, MAX_NUMBER_BEFORE, MAX_NUMBER_BEFORE + 1, LARGE, MAX_NUMBER];
+const NO_CODES_BEFORE_SERIALS: [usize; 5] = [0, 16, 17, 128, MAX_NUMBER_BEFORE];
+const NO_CODES_BEFORE_LOCKS: [usize; 5] = [0, 14, 15, 128, MAX_NUMBER_BEFORE];
+const NO_CODES_BEFORE_GREENS: [usize; 5] = [0, 13, 14, 128, MAX_NUMBER_BEFORE];
+
+/// Counts and forms that there are none of; the last one of each comes with serials.
+const NO_COUNTS: [usize; 2] = [128, LARGE];
+const NO_FORMS: [usize; 4] = [2, 3, 128, LARGE];
 
 /// The codes that a world takes for unknown.
-pub fn no_codes(world: &World) -> [usize; 5] {
-    match (world.locks, world.greens.is_empty()) {
-        (true, _) => NO_CODES,
-        (false, false) => NO_CODES_BEFORE_LOCKS,
-        (false, true) => NO_CODES_BEFORE_GREENS,
+fn no_codes(world: &World) -> &'static [usize] {
+    match (world.serials, world.locks, world.greens.is_empty()) {
+        (true, _, _) => &NO_CODES,
+        (false, true, _) => &NO_CODES_BEFORE_SERIALS,
+        (false, false, false) => &NO_CODES_BEFORE_LOCKS,
+        (false, false, true) => &NO_CODES_BEFORE_GREENS,
     }
 }
 
 /// A record that cannot be read, made from one that can (question 10).
-pub fn record(rng: &mut Rng, operation: &Operation, no_codes: [usize; 5]) -> Vec<u8> {
+pub fn record(rng: &mut Rng, operation: &Operation, world: &World) -> Vec<u8> {
+    let no_codes = no_codes(world);
     let mut tokens = tokens::of_operation(operation);
     let whole = tokens::encode(&tokens);
     let place = rng.below(tokens.len());
     match rng.below(7) {
         0 => whole[..rng.below(whole.len())].to_vec(),
         1 => [whole, vec![rng.below(256) as u8]].concat(),
-        2 => with_bad_number(rng, tokens, place),
+        2 => with_bad_number(rng, tokens, place, world.rules().most_number),
         3 => {
-            tokens[0] = Token::Number(no_codes[rng.below(5)]);
+            tokens[0] = Token::Number(no_codes[rng.below(no_codes.len())]);
             tokens::encode(&tokens)
         }
-        4 => with_bad_count(rng, operation, tokens),
-        5 => with_bad_form(rng, operation, tokens),
+        4 => with_bad_count(rng, operation, tokens, world),
+        5 => with_bad_form(rng, operation, tokens, world),
         _ => [whole[..rng.below(whole.len())].to_vec(), unfinished(rng)].concat(),
     }
 }
 
 /// The third token of every operation with a count is the count.
-fn with_bad_count(rng: &mut Rng, operation: &Operation, mut tokens: Vec<Token>) -> Vec<u8> {
+fn with_bad_count(rng: &mut Rng, operation: &Operation, mut tokens: Vec<Token>, world: &World) -> Vec<u8> {
     let count = tokens.len();
     let has_count = !operation.targets().is_empty() || !operation.sources().is_empty();
     if has_count && count > 3 {
         let Token::Number(now) = tokens[2] else {
             return tokens::encode(&tokens);
         };
-        tokens[2] = Token::Number([0, 9, now + 1, now - 1, 128][rng.below(5)]);
+        let no_counts = &NO_COUNTS[..NO_COUNTS.len() - usize::from(!world.serials)];
+        let counts = [&[0, 9, now + 1, now - 1], no_counts].concat();
+        tokens[2] = Token::Number(counts[rng.below(counts.len())]);
         // No part, or nine whole ones: the count is the only fault.
         if tokens[2] == Token::Number(0) {
             tokens.truncate(3);
@@ -235,10 +251,11 @@ fn with_bad_count(rng: &mut Rng, operation: &Operation, mut tokens: Vec<Token>) 
 }
 
 /// A form of 2 or more in one of the items.
-fn with_bad_form(rng: &mut Rng, operation: &Operation, mut tokens: Vec<Token>) -> Vec<u8> {
+fn with_bad_form(rng: &mut Rng, operation: &Operation, mut tokens: Vec<Token>, world: &World) -> Vec<u8> {
     if let Operation::Write { items, .. } = operation {
         let item = rng.below(items.len());
-        tokens[3 + item * 3 + 1] = Token::Number([2, 3, 128][rng.below(3)]);
+        let forms = NO_FORMS.len() - usize::from(!world.serials);
+        tokens[3 + item * 3 + 1] = Token::Number(NO_FORMS[rng.below(forms)]);
     } else {
         tokens.pop();
     }

@@ -5,7 +5,7 @@ use super::calls::{Call, Function};
 use super::rng::Rng;
 use super::worlds::{Size, WIDE_COUNTS, World, world};
 use crate::config::load;
-use crate::limits::{ANSWER_BYTES, EDITION, MAX_DEVICES, MAX_OBJECTS, SMALL_ROOM, area_bytes, locks_place};
+use crate::limits::{ANSWER_BYTES, FIRST_EDITION, MAX_DEVICES, MAX_OBJECTS, SMALL_ROOM, area_bytes, locks_place};
 use crate::operation::{Actor, Operation};
 use crate::state::{EXISTING, LOCKED, State};
 use crate::tokens::row;
@@ -18,7 +18,7 @@ pub const EDGES: [usize; 4] = [0, SMALL_ROOM, SMALL_ROOM + 1, MAX_OBJECTS];
 
 /// The file of a configuration with so many external objects and nothing else.
 pub fn plain_line(objects: usize) -> Vec<u8> {
-    row(&[vec![EDITION, 0, 0, objects, 0], [3, 0, 0].repeat(objects)].concat())
+    row(&[vec![FIRST_EDITION, 0, 0, objects, 0], [3, 0, 0].repeat(objects)].concat())
 }
 
 /// A call that creates a partition, if it is an operation.
@@ -44,7 +44,7 @@ pub fn areas(rng: &mut Rng, objects: usize) -> impl Iterator<Item = Call> {
 pub fn device_line(devices: usize, objects: usize) -> Vec<u8> {
     let owned: Vec<usize> = (1..=devices).flat_map(|device| [4, 2, device]).collect();
     let external = [3, 0, 0].repeat(objects - devices);
-    row(&[vec![EDITION, 0, devices, objects, 0], owned, external, vec![0; devices]].concat())
+    row(&[vec![FIRST_EDITION, 0, devices, objects, 0], owned, external, vec![0; devices]].concat())
 }
 
 /// Configurations with devices, the least and the most of both kinds, by devices and objects.

@@ -1,9 +1,14 @@
 //! The numbers that an operation names, so that the generator can change one of them.
 
+use super::broken::LARGE;
 use super::likely::Scene;
 use crate::config::Kind;
-use crate::limits::MAX_PARTITION;
+use crate::limits::{MAX_NUMBER, MAX_NUMBER_BEFORE, MAX_PARTITION};
 use crate::operation::{Actor, Operation, Put};
+
+/// Numbers far beyond what exists; those behind the first four come with serials (request N7).
+const FAR: [usize; 7] = [128, 256, 16_384, MAX_NUMBER_BEFORE, MAX_NUMBER_BEFORE + 1, LARGE, MAX_NUMBER];
+const FAR_BEFORE: usize = 4;
 
 /// What a number in a record stands for.
 #[derive(Clone, Copy, Debug, PartialEq, Eq)]
@@ -74,8 +79,11 @@ impl Scene<'_> {
             0 if !matches!(name, Name::Value | Name::Destination) => 0,
             0 | 1 => beyond,
             2 => self.rng.between(beyond, beyond + 40),
-            3 => self.rng.between(beyond.max(128), 65_535),
-            _ => [128, 256, 16_384, 65_535][self.rng.below(4)].max(beyond),
+            3 => self.rng.between(beyond.max(128), self.world.rules().most_number),
+            _ => {
+                let far = if self.world.serials { &FAR[..] } else { &FAR[..FAR_BEFORE] };
+                far[self.rng.below(far.len())].max(beyond)
+            }
         }
     }
 

@@ -48,13 +48,14 @@ impl Want {
 }
 
 /// The judgement by which a world's records are chosen. Over a world without green zones code 13 is no code, and over
-/// one without locks codes 14 and 15 are none, as it was when the first sessions were stored: these are to stay as they
-/// are.
+/// one without locks codes 14 and 15 are none; over one from before there were serials numbers from 65,536 on cannot be
+/// read. So it was when the first sessions were stored, and these are to stay as they are.
 pub fn judgement(world: &World, state: &State, record: &[u8]) -> Judgement {
-    match operation::read(record).map(|operation| operation.code()) {
+    match operation::read_up_to(world.rules().most_number, record).map(|operation| operation.code()) {
+        None => Err(10),
         Some(13) if world.greens.is_empty() => Err(10),
         Some(14 | 15) if !world.locks => Err(10),
-        _ => judge(closure, &world.config, state, record),
+        Some(_) => judge(closure, &world.config, state, record),
     }
 }
 
@@ -82,7 +83,7 @@ fn proposed(rng: &mut Rng, world: &World, state: &State, wanted: u8) -> Vec<u8> 
         0 => scene.likely().to_bytes(),
         10 => {
             let operation = if scene.rng.percent(60) { scene.likely() } else { scene.anything() };
-            broken::record(scene.rng, &operation, broken::no_codes(world))
+            broken::record(scene.rng, &operation, world)
         }
         _ => scene.likely_refused(wanted).to_bytes(),
     }

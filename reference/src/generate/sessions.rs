@@ -7,6 +7,7 @@ use super::records::{self, Want};
 use super::rings::ringed;
 use super::rng::Rng;
 use super::worlds::{Size, World, world};
+use crate::limits::{MAX_NUMBER, MAX_NUMBER_BEFORE};
 use crate::state::State;
 use crate::varint;
 
@@ -80,19 +81,23 @@ pub fn session(rng: &mut Rng, world: &World, records: usize, focus: Option<u8>, 
         out.extend(record);
     }
     if end == End::Cut {
-        out.extend(cut_end(rng));
+        out.extend(cut_end(rng, world));
     }
     out
 }
 
+/// Lengths of records that are cut; those behind the first six come with serials (request N7).
+const CUT: [usize; 9] = [1, 2, 127, 128, 300, MAX_NUMBER_BEFORE, MAX_NUMBER_BEFORE + 1, broken::LARGE, MAX_NUMBER];
+const CUT_BEFORE: usize = 6;
+
 /// A length without a last byte, in a bad form, or larger than what follows.
-pub fn cut_end(rng: &mut Rng) -> Vec<u8> {
-    let length = [1, 2, 127, 128, 300, 65_535][rng.below(6)];
+fn cut_end(rng: &mut Rng, world: &World) -> Vec<u8> {
+    let length = CUT[rng.below(if world.serials { CUT.len() } else { CUT_BEFORE })];
     let mut bytes = Vec::new();
     match rng.below(4) {
         0 => bytes.extend([200, 128, 255, 128].iter().take(rng.between(1, 4))),
         1 => {
-            bytes.extend(broken::bad_number(rng, length));
+            bytes.extend(broken::bad_number(rng, length, world.rules().most_number));
             bytes.extend(rng.bytes(3));
         }
         2 => varint::write(length, &mut bytes),

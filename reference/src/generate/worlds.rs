@@ -2,7 +2,7 @@
 //! to be in, and chains of descriptor writes that stay in one partition or leave it at the end.
 
 use super::rng::Rng;
-use crate::config::{Config, Entry, Kind, Object, Owner};
+use crate::config::{Config, Entry, Kind, Object, Owner, RULES, RULES_BEFORE, Rules};
 use crate::limits::{
     MAX_DEVICES, MAX_DRIVERS, MAX_ENTRIES, MAX_OBJECTS, MAX_ONE_BYTE, MAX_PARTITION, MAX_VALUES, SMALL_ROOM,
 };
@@ -48,12 +48,22 @@ pub struct World {
     pub greens: Vec<usize>,
     /// Whether its sessions lock devices (request N6); not in worlds from before there were locks.
     pub locks: bool,
+    /// Whether its files and records are chosen by today's editions and numbers (request N7); not in worlds from before
+    /// there were serials.
+    pub serials: bool,
     /// The planned partition of each driver, device and object; 0 is none.
     pub drivers: Vec<usize>,
     pub devices: Vec<usize>,
     pub objects: Vec<usize>,
     /// Where chains begin: a descriptor that a device reads, and the value to write there.
     pub heads: Vec<(usize, usize)>,
+}
+
+impl World {
+    /// What its files and records are chosen by: what was there when they were stored first.
+    pub fn rules(&self) -> &'static Rules {
+        if self.serials { &RULES } else { &RULES_BEFORE }
+    }
 }
 
 /// A world in the making, with the value numbers that are still free.
@@ -74,13 +84,15 @@ pub fn world(rng: &mut Rng, size: Size) -> World {
     rng.shuffle(&mut free);
     let driver_homes = homes(rng, &zones, drivers);
     let device_homes = homes(rng, &zones, devices);
-    let config = Config { drivers, hardcoded: vec![0; devices], values: vec![Vec::new(); values], objects: Vec::new() };
+    let (hardcoded, serials) = (vec![0; devices], vec![0; devices]);
+    let config = Config { drivers, hardcoded, serials, values: vec![Vec::new(); values], ..Config::default() };
     let world = World {
         config,
         line: Vec::new(),
         zones,
         greens: Vec::new(),
         locks: false,
+        serials: false,
         drivers: driver_homes,
         devices: device_homes,
         objects: Vec::new(),

@@ -76,6 +76,7 @@ impl Numbers {
             zones: homes(&old.zones),
             greens: homes(&old.greens),
             locks: old.locks,
+            serials: old.serials,
             drivers: moved(&self.drivers, &homes(&old.drivers)),
             devices: moved(&self.devices, &homes(&old.devices)),
             objects: moved(&self.objects, &homes(&old.objects)),
@@ -99,9 +100,11 @@ impl Numbers {
         let hardcoded: Vec<usize> = old.hardcoded.iter().map(|value| self.values[*value]).collect();
         let values: Vec<Vec<Entry>> = old.values.iter().map(|value| value.iter().map(entry).collect()).collect();
         Config {
+            edition: old.edition,
             drivers: old.drivers,
             objects: moved(&self.objects, &objects),
             hardcoded: moved(&self.devices, &hardcoded),
+            serials: moved(&self.devices, &old.serials),
             values: moved(&self.values, &values),
         }
     }

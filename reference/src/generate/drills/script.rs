@@ -46,6 +46,7 @@ impl Script<'_> {
             zones: Vec::new(),
             greens: Vec::new(),
             locks: false,
+            serials: false,
             drivers: Vec::new(),
             devices: Vec::new(),
             objects: Vec::new(),
@@ -80,6 +81,7 @@ impl Script<'_> {
     pub fn idle_device(&mut self, partition: usize) -> usize {
         self.world.devices.push(partition);
         self.world.config.hardcoded.push(0);
+        self.world.config.serials.push(0);
         let device = self.world.devices.len();
         self.object(Kind::Hardcoded, Owner::Device(device), partition);
         device
