@@ -1,9 +1,9 @@
-//! The program `vectors` on cases of each kind that requests N2 and N3 brought, and on those whose areas have another
+//! The program `vectors` on cases of each kind that requests N2, N3 and N7 brought, and on those whose areas have another
 //! length since N2, and another again since N6. A row's checksum is worked out here anew.
 
 mod common;
 
-use common::{SMALL_AREA, SMALL_LOCKS, WIDE_AREA, WIDE_LOCKS, file_l};
+use common::{SMALL_AREA, SMALL_LOCKS, WIDE_AREA, WIDE_LOCKS, file_l, l_with_serials};
 use reference::generate::lengths::plain_line;
 use reference::{load, memory};
 use std::io::Write;
@@ -255,4 +255,52 @@ fn configurations_in_memory_of_both_layouts() {
     let found = rows(&[longer(7, 1_227), longer(7, 1_228), longer(11, 1_515), longer(11, 1_516)]);
     let short = (2 * REFUSED + 5, 0);
     assert_eq!(found, [short, NONE, short, NONE]);
+}
+
+/// A case of the writer with edition and serials: an area of 600 bytes, the edition, seventeen serials, the row of the
+/// other layout.
+fn with_serials(edition: u8, serials: [u32; 17], row: &[u8]) -> (u8, Vec<u8>) {
+    let serials: Vec<u8> = serials.iter().flat_map(|serial| serial.to_le_bytes()).collect();
+    (14, [&two(600)[..], &[edition], &serials, row].concat())
+}
+
+#[test]
+fn configurations_in_memory_with_edition_and_serials() {
+    let l = memory::Memory::of(&load(&file_l()).expect("the file is accepted")).to_row(193);
+    let serials = |first: u32, second: u32| {
+        let mut serials = [u32::MAX; 17];
+        (serials[1], serials[2]) = (first, second);
+        serials
+    };
+    let written = |file: Vec<u8>| (file.len() as u64, checksum(&[&file[..], &vec![170; 600 - file.len()]].concat()));
+    let refused = (REFUSED + 3, checksum(&[170; 600]));
+    assert_eq!(rows(&[with_serials(1, serials(0, 0), &l)]), [written(file_l())]);
+    for (first, second) in [(70_000, 0), (0, 70_000), (127, 128), (16_383, 16_384), (65_535, 65_536), (1, 2_097_151)] {
+        let file = l_with_serials([first as usize, second as usize]);
+        assert_eq!(rows(&[with_serials(2, serials(first, second), &l)]), [written(file)], "{first} {second}");
+        assert_eq!(rows(&[with_serials(1, serials(first, second), &l)]), [refused], "{first} {second}");
+    }
+    for serial in [2_097_152, 2_097_153, 1 << 24, (1 << 24) + 1, 1 << 31, u32::MAX] {
+        for edition in [1, 2] {
+            let cases = [serials(serial, 0), serials(0, serial)].map(|serials| with_serials(edition, serials, &l));
+            assert_eq!(rows(&cases), [refused; 2], "{edition} {serial}");
+        }
+    }
+    for edition in [0, 3, 127, 128, 129, 255] {
+        assert_eq!(rows(&[with_serials(edition, [0; 17], &l)]), [refused], "{edition}");
+    }
+}
+
+#[test]
+fn rows_with_edition_and_serials_that_are_cut_or_longer() {
+    // Bytes that are missing are 0: no edition, or an edition and nothing else.
+    let old = |length: usize| checksum(&vec![170; length]);
+    let cut = [vec![], vec![9], vec![9, 0], vec![9, 0, 1], vec![9, 0, 2], vec![4, 0, 2], vec![9, 0, 3]];
+    let written = |edition: u8| (5, checksum(&[edition, 0, 0, 0, 0, 170, 170, 170, 170]));
+    let refused = |length: usize| (REFUSED + 3, old(length));
+    let short = (2 * REFUSED + 5, old(4));
+    let expected = [refused(0), refused(9), refused(9), written(1), written(2), short, refused(9)];
+    assert_eq!(rows(&cut.map(|bytes| (14, bytes))), expected);
+    let longer = |bytes: usize| (14, [&two(9)[..], &[2], &vec![0; bytes - 1]].concat());
+    assert_eq!(rows(&[longer(1_584), longer(1_585)]), [written(2), NONE]);
 }

@@ -15,8 +15,9 @@ use std::process::ExitCode;
 
 /// What a case calls: the load check; making a fresh state in an area of the right length, of a byte less and of a byte
 /// more; question 9; question 10; the writer of files, for small configurations; making a fresh state in an area of a
-/// given length; an operation in one; the length of a state area; the writer for any configuration; the first bad
-/// record of an area of a given length; an operation with a given record in one.
+/// given length; an operation in one; the length of a state area; the writer for any configuration of edition 1; the
+/// first bad record of an area of a given length; an operation with a given record in one; the writer for any
+/// configuration with its edition and serials.
 const LOAD: u8 = 1;
 const FRESH: u8 = 2;
 const FORMED: u8 = 3;
@@ -30,6 +31,7 @@ const STATE_LENGTH: u8 = 10;
 const WRITE: u8 = 11;
 const FIRST_BAD: u8 = 12;
 const OPERATE_RECORD: u8 = 13;
+const WRITE_SERIALS: u8 = 14;
 
 const HEAD_BYTES: usize = 3;
 const PATCH_BYTES: usize = 3;
@@ -99,8 +101,9 @@ fn judge(call: u8, bytes: &[u8]) -> Option<Row> {
         OPERATION => Some(judge_record(bytes)),
         OPERATE_GIVEN => judge_operate(bytes),
         STATE_LENGTH => Some((state_bytes(bytes), 0)),
-        WRITE_SMALL => judge_write(bytes, SMALL_OBJECT_PLACES),
-        WRITE => judge_write(bytes, OBJECT_PLACES),
+        WRITE_SMALL => judge_write(bytes, |row| Memory::from_row(row, SMALL_OBJECT_PLACES)),
+        WRITE => judge_write(bytes, |row| Memory::from_row(row, OBJECT_PLACES)),
+        WRITE_SERIALS => judge_write(bytes, Memory::from_bytes),
         FIRST_BAD => judge_first_bad(bytes),
         OPERATE_RECORD => judge_operate_record(bytes),
         _ => None,
@@ -189,11 +192,10 @@ fn judge_first_bad(bytes: &[u8]) -> Option<Row> {
     Some((place, u64::from(operate(line, &mut area, &EMPTY_RECORD, &mut [0; ANSWER_BYTES]))))
 }
 
-/// The area's length in two bytes, then a configuration in memory whose columns for objects have so many places; bytes
-/// missing at the end are 0.
-fn judge_write(bytes: &[u8], places: usize) -> Option<Row> {
+/// The area's length in two bytes, then the row of a configuration in memory; bytes missing at the end are 0.
+fn judge_write(bytes: &[u8], in_memory: fn(&[u8]) -> Option<Memory>) -> Option<Row> {
     let byte = |place: usize| bytes.get(place).copied().unwrap_or(0);
-    let memory = Memory::from_row(bytes.get(LENGTH_BYTES..).unwrap_or_default(), places)?;
+    let memory = in_memory(bytes.get(LENGTH_BYTES..).unwrap_or_default())?;
     let mut area = vec![OLD_BYTE; two(byte(0), byte(1)).min(LONGEST_AREA)];
     let answer = coded(write(&memory, &mut area));
     Some((answer, checksum(area.into_iter().map(usize::from))))

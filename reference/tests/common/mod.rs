@@ -14,6 +14,12 @@ pub const WIDE_AREA: usize = 3_376;
 pub const SMALL_LOCKS: usize = 1_728;
 pub const WIDE_LOCKS: usize = 3_360;
 
+/// L in edition 2 with these serials of its two devices (request N7).
+pub fn l_with_serials(serials: [usize; 2]) -> Vec<u8> {
+    let l: Vec<usize> = file_l().iter().map(|byte| usize::from(*byte)).collect();
+    row(&[&[2], &l[1..24], &[serials[0], l[24], serials[1]], &l[25..]].concat())
+}
+
 /// File L of document 01, 45 bytes.
 pub fn file_l() -> Vec<u8> {
     let counts = [1, 2, 2, 6, 5];
