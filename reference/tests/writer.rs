@@ -4,23 +4,29 @@ mod common;
 
 use common::file_l;
 use reference::generate::memories::{FAULTS, FIELDS, Field, broken, faulty, noisy, refused, shaken};
+use reference::generate::serials::label;
 use reference::generate::{Rng, Size, World, drills, ringed};
-use reference::limits::{MAX_DEVICES, MAX_DRIVERS, MAX_ENTRIES, MAX_OBJECTS, MAX_VALUES};
+use reference::limits::{MAX_DEVICES, MAX_DRIVERS, MAX_ENTRIES, MAX_OBJECTS, MAX_SERIAL, MAX_VALUES};
 use reference::tokens::row;
 use reference::{Memory, Written, coded, load, load_check, rewrite, rewriting, write};
 use std::collections::BTreeMap;
 
-/// The length of the longest file that can be accepted.
-const LONGEST: usize = 1_773;
+/// The length of the longest file that can be accepted, and of the longest of edition 1.
+const LONGEST: usize = 1_821;
+const LONGEST_WITHOUT_SERIALS: usize = 1_773;
 /// An area that every file fits into.
 const ROOM: usize = LONGEST + 100;
 
-/// Generated worlds of every size, drills among them.
+/// Generated worlds of every size and of both editions, drills among them.
 fn worlds(seed: u64, count: u64) -> impl Iterator<Item = World> {
     (0..count).map(move |part| {
         let mut rng = Rng::part(seed, part);
         let size = Size::any(&mut rng);
-        if part % 10 == 9 { drills::any(&mut rng).world } else { ringed(&mut rng, size) }
+        let mut world = if part % 10 == 9 { drills::any(&mut rng).world } else { ringed(&mut rng, size) };
+        if part % 2 == 0 {
+            label(&mut rng, &mut world);
+        }
+        world
     })
 }
 
@@ -133,7 +139,9 @@ fn noisy_behind_counts(rng: &mut Rng, memory: &Memory) -> Memory {
 fn each_value_that_a_field_of_l_cannot_have() {
     // A field of L, how it is set, and the bytes that it cannot have.
     type Change = (&'static str, fn(&mut Memory, u8), &'static [u8]);
-    let changes: [Change; 14] = [
+    let changes: [Change; 16] = [
+        ("edition", |memory, byte| memory.edition = byte, &[0, 3, 127, 128, 255]),
+        ("serial", |memory, byte| memory.serials[2] = u32::from(byte), &[1, 2, 127, 128, 255]),
         ("drivers", |memory, byte| memory.drivers = byte, &[0, 17, 128, 255]),
         ("devices", |memory, byte| memory.devices = byte, &[0, 1, 17, 128, 255]),
         ("objects", |memory, byte| memory.objects = byte, &[0, 1, 3, 97, 192, 193, 255]),
@@ -200,22 +208,32 @@ fn the_first_of_3_5_6_and_the_length_decides() {
 
 /// The numbers of a configuration in the order of its file, whatever they are, up to the first count out of range.
 fn numbers(memory: &Memory) -> Vec<usize> {
-    let mut out = vec![1, memory.drivers, memory.devices, memory.objects, memory.values];
-    if load_check(&row(&wide(&out))) == 3 {
-        return wide(&out);
+    let mut out = wide(&[memory.edition, memory.drivers, memory.devices, memory.objects, memory.values]);
+    if load_check(&row(&out)) == 3 {
+        return out;
     }
     for object in 1..=usize::from(memory.objects) {
-        out.extend([memory.kind[object], memory.class[object], memory.owner[object]]);
+        out.extend(wide(&[memory.kind[object], memory.class[object], memory.owner[object]]));
     }
-    out.extend(&memory.hardcoded[1..=usize::from(memory.devices)]);
+    for device in 1..=usize::from(memory.devices) {
+        out.push(usize::from(memory.hardcoded[device]));
+        out.extend((memory.edition == 2).then_some(memory.serials[device] as usize));
+    }
     for value in 1..=usize::from(memory.values) {
-        out.push(memory.count[value]);
+        out.push(usize::from(memory.count[value]));
         if usize::from(memory.count[value]) > MAX_ENTRIES {
             break;
         }
-        (1..=usize::from(memory.count[value])).for_each(|entry| out.extend(memory.entry(value, entry)));
+        (1..=usize::from(memory.count[value])).for_each(|entry| out.extend(wide(&memory.entry(value, entry))));
     }
-    wide(&out)
+    out
+}
+
+/// Whether a serial is beyond its range, which no file shows: there it is in no form that can be read, or left out.
+fn has_lost_serial(memory: &Memory) -> bool {
+    let devices = usize::from(memory.devices).min(MAX_DEVICES);
+    let most = if memory.edition == 2 { MAX_SERIAL } else { 0 };
+    memory.serials[1..=devices].iter().any(|serial| *serial as usize > most)
 }
 
 fn wide(bytes: &[u8]) -> Vec<usize> {
@@ -230,7 +248,7 @@ fn the_writer_refuses_what_the_loader_would() {
         let sound = Memory::of(&world.config);
         for turn in 0..40 {
             let memory = if turn == 0 { Memory::filled(|| rng.word() as u8) } else { shaken(&mut rng, &sound) };
-            let loaded = load_check(&row(&numbers(&memory)));
+            let loaded = if has_lost_serial(&memory) { 3 } else { load_check(&row(&numbers(&memory))) };
             match answer(&mut rng, &memory, ROOM) {
                 Written::Length(_) => assert_eq!(loaded, 0),
                 Written::Refused(number) => assert_eq!(loaded, u32::from(number)),
@@ -259,11 +277,18 @@ fn areas_of_every_length() {
 
 #[test]
 fn the_smallest_and_the_largest() {
-    let zeros = Memory::filled(|| 0);
-    assert_eq!(file(&zeros), row(&[1, 0, 0, 0, 0]));
-    assert_eq!(write(&Memory::filled(|| 255), &mut [0; ROOM]), Written::Refused(3));
+    assert_eq!(file(&Memory::empty()), row(&[1, 0, 0, 0, 0]));
+    assert_eq!(file(&Memory { edition: 2, ..Memory::empty() }), row(&[2, 0, 0, 0, 0]));
+    for byte in [0, 255] {
+        assert_eq!(write(&Memory::filled(|| byte), &mut [0; ROOM]), Written::Refused(3));
+    }
     let mut largest = largest();
+    assert_eq!(file(&largest).len(), LONGEST_WITHOUT_SERIALS);
+    largest.edition = 2;
+    assert_eq!(file(&largest).len(), LONGEST_WITHOUT_SERIALS + MAX_DEVICES);
+    largest.serials[1..].fill(MAX_SERIAL as u32);
     assert_eq!(file(&largest).len(), LONGEST);
+    assert_eq!(load_check(&file(&largest)), 0);
     assert_eq!(answer(&mut Rng::new(11), &largest, LONGEST - 1), Written::Short(LONGEST));
     // Behind a value's six entries stand those of the next values: nothing but the count is wrong.
     for count in [7, 12, 200] {
@@ -275,7 +300,7 @@ fn the_smallest_and_the_largest() {
 /// Every count at its limit, six entries in each value, and each of them for an object whose number has two bytes. No
 /// device has a hardcoded value: any entries will do.
 fn largest() -> Memory {
-    let mut largest = Memory::filled(|| 0);
+    let mut largest = Memory::empty();
     (largest.drivers, largest.devices) = (MAX_DRIVERS as u8, MAX_DEVICES as u8);
     (largest.objects, largest.values) = (MAX_OBJECTS as u8, MAX_VALUES as u8);
     largest.kind[1..].fill(3);
@@ -296,7 +321,9 @@ fn bytes_make_a_configuration_in_memory_and_back() {
     let mut rng = Rng::new(12);
     let memory = Memory::filled(|| rng.word() as u8);
     let bytes = memory.to_bytes();
-    assert_eq!(bytes.len(), 1_515);
+    assert_eq!(bytes.len(), 1_584);
+    assert_eq!((bytes[0], &bytes[5..9]), (memory.edition, &memory.serials[1].to_le_bytes()[..]));
+    assert_eq!(bytes[69..], memory.to_row(193));
     assert_eq!(Memory::from_bytes(&bytes), Some(memory));
     assert_eq!(Memory::from_bytes(&[bytes, vec![0]].concat()), None);
     let l = in_memory(&file_l());
@@ -324,7 +351,7 @@ fn answers_as_one_number() {
 /// A file that each of the questions 1 to 6 refuses.
 fn refused_files() -> [Vec<u8>; 6] {
     let hardcoded = row(&[1, 0, 1, 2, 1, 4, 2, 1, 3, 0, 0, 1, 1, 2, 1, 0]);
-    [vec![], vec![129, 0], vec![2], [file_l(), vec![0]].concat(), row(&[1, 0, 1, 0, 0, 0]), hardcoded]
+    [vec![], vec![129, 0], vec![3], [file_l(), vec![0]].concat(), row(&[1, 0, 1, 0, 0, 0]), hardcoded]
 }
 
 #[test]
@@ -357,8 +384,9 @@ fn the_generator_breaks_what_it_says() {
     let smallest = in_memory(&row(&[1, 0, 0, 0, 0]));
     let mut rng = Rng::new(14);
     for field in FIELDS {
-        let is_count = matches!(field, Field::Drivers | Field::Devices | Field::Objects | Field::Values);
-        assert_eq!(broken(&mut rng, &smallest, field).is_some(), is_count, "{field:?}");
+        let is_there =
+            matches!(field, Field::Edition | Field::Drivers | Field::Devices | Field::Objects | Field::Values);
+        assert_eq!(broken(&mut rng, &smallest, field).is_some(), is_there, "{field:?}");
     }
     assert!(refused(&mut rng, &smallest, 5).is_none() && refused(&mut rng, &smallest, 6).is_none());
 }

@@ -1,18 +1,22 @@
 //! Cases of the writer of files for the programs `vectors`, this package's and the proved one: configurations in memory
-//! that the generator makes, each into an area of a length that matters. As many as a program takes in.
+//! that the generator makes, of both editions, each into an area of a length that matters. As many as a program takes
+//! in.
 //!
 //!     memories SEED > CASES
 
 use reference::Memory;
 use reference::generate::memories::cases;
+use reference::generate::serials::label;
 use reference::generate::{Rng, Size, ringed};
 use reference::memory::{OBJECT_PLACES, SMALL_OBJECT_PLACES};
 use std::io::Write;
 use std::process::ExitCode;
 
-/// What a case of the writer begins with: the columns for objects have the places of small configurations, or all.
+/// What a case of the writer begins with: the columns for objects have the places of small configurations, or all; or
+/// edition and serials stand before the counts.
 const WRITE_SMALL: u8 = 7;
 const WRITE: u8 = 11;
+const WRITE_SERIALS: u8 = 14;
 
 /// How much is put to the program `vectors` at the most, which takes in more.
 const MOST_INPUT: usize = 131_072;
@@ -41,10 +45,13 @@ fn input(seed: u64) -> Vec<u8> {
     for part in 0.. {
         let mut rng = Rng::part(seed, part);
         let size = Size::any(&mut rng);
-        let world = ringed(&mut rng, size);
+        let mut world = ringed(&mut rng, size);
+        if rng.percent(50) {
+            label(&mut rng, &mut world);
+        }
         for memory in cases(&mut rng, &Memory::of(&world.config)) {
-            let small = !world.config.is_wide() && rng.percent(40);
-            let case = case(&mut rng, &memory, world.line.len(), small);
+            let kind = kind(&mut rng, &memory, world.config.is_wide());
+            let case = case(&mut rng, &memory, world.line.len(), kind);
             if out.len() + case.len() > MOST_INPUT {
                 return out;
             }
@@ -54,14 +61,29 @@ fn input(seed: u64) -> Vec<u8> {
     out
 }
 
+/// What a case calls. Without edition and serials stands only what is of edition 1 and has none.
+fn kind(rng: &mut Rng, memory: &Memory, wide: bool) -> u8 {
+    let empty = Memory::empty();
+    let plain = memory.edition == empty.edition && memory.serials == empty.serials;
+    match rng.weighted(&[30, 40, 30]) {
+        _ if !plain => WRITE_SERIALS,
+        0 if !wide => WRITE_SMALL,
+        2 => WRITE_SERIALS,
+        _ => WRITE,
+    }
+}
+
 /// A configuration into an area; zeros at its end are left out, as the programs take them for given.
-fn case(rng: &mut Rng, memory: &Memory, length: usize, small: bool) -> Vec<u8> {
-    let (call, places) = if small { (WRITE_SMALL, SMALL_OBJECT_PLACES) } else { (WRITE, OBJECT_PLACES) };
+fn case(rng: &mut Rng, memory: &Memory, length: usize, kind: u8) -> Vec<u8> {
     let rooms = [0, length - 1, length, length + 1, length + SPARE];
     let mut bytes = two(rooms[rng.below(rooms.len())]).to_vec();
-    bytes.extend(memory.to_row(places));
+    bytes.extend(match kind {
+        WRITE_SMALL => memory.to_row(SMALL_OBJECT_PLACES),
+        WRITE => memory.to_row(OBJECT_PLACES),
+        _ => memory.to_bytes(),
+    });
     bytes.truncate(bytes.iter().rposition(|byte| *byte != 0).map_or(2, |last| last.max(1) + 1));
-    [&[call][..], &two(bytes.len()), &bytes].concat()
+    [&[kind][..], &two(bytes.len()), &bytes].concat()
 }
 
 /// A number in two bytes, the lower one first.

@@ -2,12 +2,16 @@
 //! 6; bytes changed anywhere; and any bytes in the places that name nothing. `cases` has all of these of one line.
 
 use super::rng::Rng;
-use crate::limits::{MAX_DEVICES, MAX_DRIVERS, MAX_ENTRIES, MAX_OBJECTS, MAX_VALUES};
-use crate::memory::{MEMORY_BYTES, Memory, entry_place};
+use crate::limits::{
+    FIRST_EDITION, LAST_EDITION, MAX_DEVICES, MAX_DRIVERS, MAX_ENTRIES, MAX_OBJECTS, MAX_SERIAL, MAX_VALUES,
+    SERIALS_FROM,
+};
+use crate::memory::{COUNTS, HEAD_BYTES, MEMORY_BYTES, Memory, entry_place};
 
 /// The fields that question 3 is put to, in the order of the file.
 #[derive(Clone, Copy, Debug, PartialEq, Eq)]
 pub enum Field {
+    Edition,
     Drivers,
     Devices,
     Objects,
@@ -16,13 +20,15 @@ pub enum Field {
     Class,
     Owner,
     Hardcoded,
+    Serial,
     Count,
     Object,
     Mode,
     Stored,
 }
 
-pub const FIELDS: [Field; 12] = [
+pub const FIELDS: [Field; 14] = [
+    Field::Edition,
     Field::Drivers,
     Field::Devices,
     Field::Objects,
@@ -31,6 +37,7 @@ pub const FIELDS: [Field; 12] = [
     Field::Class,
     Field::Owner,
     Field::Hardcoded,
+    Field::Serial,
     Field::Count,
     Field::Object,
     Field::Mode,
@@ -41,6 +48,7 @@ pub const FIELDS: [Field; 12] = [
 pub fn broken(rng: &mut Rng, sound: &Memory, field: Field) -> Option<Memory> {
     let mut memory = sound.clone();
     match field {
+        Field::Edition => memory.edition = none_or_above(rng, LAST_EDITION),
         Field::Drivers => memory.drivers = above(rng, MAX_DRIVERS),
         Field::Devices => memory.devices = above(rng, MAX_DEVICES),
         Field::Objects => memory.objects = above(rng, MAX_OBJECTS),
@@ -56,6 +64,7 @@ pub fn broken(rng: &mut Rng, sound: &Memory, field: Field) -> Option<Memory> {
             };
         }
         Field::Hardcoded => memory.hardcoded[one_of(rng, sound.devices)?] = above(rng, usize::from(sound.values)),
+        Field::Serial => memory.serials[one_of(rng, sound.devices)?] = no_serial(rng, sound.edition),
         Field::Count => memory.count[one_of(rng, sound.values)?] = [7, 200, above(rng, MAX_ENTRIES)][rng.below(3)],
         Field::Object | Field::Mode | Field::Stored => break_entry(rng, &mut memory, field)?,
     }
@@ -100,6 +109,20 @@ fn above(rng: &mut Rng, most: usize) -> u8 {
 /// The same, or 0.
 fn none_or_above(rng: &mut Rng, most: usize) -> u8 {
     if rng.percent(40) { 0 } else { above(rng, most) }
+}
+
+/// Serials above the limit: the next number, one whose lowest three bytes are 0, the largest, and others of which
+/// something is in range if it is cut.
+const TOO_LARGE: [u32; 6] =
+    [MAX_SERIAL as u32 + 1, 1 << 24, u32::MAX, (1 << 24) + 1, MAX_SERIAL as u32 + 70_001, 1 << 31];
+
+/// A serial that no device of this edition can have: one above the limit, or any in an edition that has none, also one
+/// whose lowest bytes are 0.
+fn no_serial(rng: &mut Rng, edition: u8) -> u32 {
+    if usize::from(edition) < SERIALS_FROM && rng.percent(60) {
+        return [1, 256, 1 << 16, MAX_SERIAL as u32, rng.between(1, MAX_SERIAL) as u32][rng.below(5)];
+    }
+    TOO_LARGE[rng.below(TOO_LARGE.len())]
 }
 
 /// The configuration with a fault that question 3, 5 or 6 refuses; nothing if the line has no room for one. A fault of
@@ -165,6 +188,7 @@ fn is_forbidden(memory: &Memory, device: usize, object: usize) -> bool {
 /// past a value's count.
 pub fn noisy(rng: &mut Rng, sound: &Memory) -> Memory {
     let mut memory = Memory::filled(|| rng.word() as u8);
+    memory.edition = sound.edition;
     (memory.drivers, memory.devices) = (sound.drivers, sound.devices);
     (memory.objects, memory.values) = (sound.objects, sound.values);
     for object in 1..=usize::from(sound.objects) {
@@ -174,6 +198,7 @@ pub fn noisy(rng: &mut Rng, sound: &Memory) -> Memory {
     }
     for device in 1..=usize::from(sound.devices) {
         memory.hardcoded[device] = sound.hardcoded[device];
+        memory.serials[device] = sound.serials[device];
     }
     for value in 1..=usize::from(sound.values) {
         memory.count[value] = sound.count[value];
@@ -184,14 +209,22 @@ pub fn noisy(rng: &mut Rng, sound: &Memory) -> Memory {
     memory
 }
 
-/// A configuration with a few bytes changed anywhere, mostly to small numbers.
+/// A configuration with a few bytes changed anywhere, mostly to small numbers; its edition is the other one now and
+/// then.
 pub fn shaken(rng: &mut Rng, memory: &Memory) -> Memory {
     let mut bytes = memory.to_bytes();
     for _ in 0..rng.between(1, 4) {
-        // One change in four is near the start, where the counts are.
-        let place = if rng.percent(25) { rng.below(8) } else { rng.below(MEMORY_BYTES) };
+        // One change in four is near the counts, and some are in the serials.
+        let place = match rng.weighted(&[25, 8, 67]) {
+            0 => rng.between(HEAD_BYTES, HEAD_BYTES + 2 * COUNTS - 1),
+            1 => rng.below(HEAD_BYTES),
+            _ => rng.between(HEAD_BYTES, MEMORY_BYTES - 1),
+        };
         let most = [3, 7, 100, 255][rng.below(4)];
         bytes[place] = rng.between(0, most) as u8;
+    }
+    if rng.percent(6) {
+        bytes[0] = [FIRST_EDITION, LAST_EDITION][rng.below(2)] as u8;
     }
     let mut bytes = bytes.into_iter();
     Memory::filled(|| bytes.next().unwrap_or(0))
