@@ -11,6 +11,7 @@ use super::locks::locking;
 use super::records::{self, Want};
 use super::rings::ringed;
 use super::rng::Rng;
+use super::serials::{self, label, labelled};
 use super::worlds::{Size, World, world};
 use crate::config::load;
 use crate::limits::{ANSWER_BYTES, STATE_BYTES, STATE_BYTES_WIDE, locks_place};
@@ -89,10 +90,13 @@ impl Calls {
         if self.rng.percent(5) {
             let drill = drills::any(&mut self.rng);
             (self.world, self.drill) = (drill.world, drill.records.into());
+            if self.rng.percent(50) {
+                label(&mut self.rng, &mut self.world);
+            }
         } else {
             let size = Size::any(&mut self.rng);
-            let kinds = [ringed, greened, locking];
-            self.world = kinds[self.rng.weighted(&[30, 25, 45])](&mut self.rng, size);
+            let kinds = [ringed, greened, locking, labelled];
+            self.world = kinds[self.rng.weighted(&[20, 15, 20, 45])](&mut self.rng, size);
         }
         self.operations = self.drill.len() + self.rng.between(5, 70) + self.world.config.objects.len();
         let line = self.world.line.clone();
@@ -107,6 +111,11 @@ impl Calls {
         }
         if self.rng.percent(40) {
             let call = self.widened();
+            self.queue.push_back(call);
+        }
+        if let Some(line) = serials::changed(&mut self.rng, &self.world) {
+            let function = [Function::LoadCheck, Function::Fresh, Function::Operate][self.rng.below(3)];
+            let call = self.call(function, line);
             self.queue.push_back(call);
         }
         if self.rng.percent(25) {

@@ -1,9 +1,10 @@
 //! Calls of the function that rewrites a configuration file: an accepted file into areas of every length that matters,
-//! files that each question refuses, files that announce many objects, and files of any bytes. The areas are full of
-//! noise.
+//! files that each question refuses, files that announce many objects, files with a serial changed, and files of any
+//! bytes. The areas are full of noise.
 
 use super::broken;
 use super::rng::Rng;
+use super::serials;
 use super::worlds::World;
 
 /// One call: the file, and the area before it.
@@ -32,6 +33,9 @@ pub fn rewrites(rng: &mut Rng, world: &World) -> Vec<Rewrite> {
     let mut changed = world.line.clone();
     changed[rng.below(length)] = rng.between(0, 130) as u8;
     calls.push(somewhere(rng, changed));
+    if let Some(line) = serials::changed(rng, world) {
+        calls.push(somewhere(rng, line));
+    }
     let count = rng.below(2 * SPARE);
     let any = rng.bytes(count);
     calls.push(somewhere(rng, any));
