@@ -51,7 +51,7 @@ const FIRST_NUMBERS: usize = 5;
 const OBJECT_NUMBERS: usize = 3;
 const DEVICE_NUMBERS: usize = 2;
 
-/// The place, from 0, of a device's serial among the numbers of a file with so many objects, in an edition that has one.
+/// The place, from 0, of a serial among the numbers of a file with so many objects, of an edition that has serials.
 pub fn serial_place(objects: usize, device: usize) -> usize {
     FIRST_NUMBERS + OBJECT_NUMBERS * objects + DEVICE_NUMBERS * device - 1
 }

@@ -3,9 +3,11 @@
 mod common;
 
 use common::file_l;
+use reference::config::{RULES_BEFORE, load_by};
 use reference::generate::corners::{green_corners, lock_corners, ring_corners};
 use reference::generate::drills::POINTS;
-use reference::generate::stored::{GREEN_CASES, LOCK_CASES, MOST_INPUT, RING_CASES, long, with_drills};
+use reference::generate::serial_corners::serial_corners;
+use reference::generate::stored::{GREEN_CASES, LOCK_CASES, MOST_INPUT, RING_CASES, SERIAL_CASES, long, with_drills};
 use reference::generate::{Folder, Rng, Size, sessions::folder, stored};
 use reference::office::next_record;
 use reference::varint::Reader;
@@ -59,8 +61,8 @@ fn lengths_and_cuts() {
 fn stored_cases_hold_together() {
     let cases = with_drills(1, 300, 120_000);
     let drills: usize = POINTS.iter().map(|(_, count)| count).sum();
-    let corners = ring_corners().len() + green_corners().len() + lock_corners().len();
-    assert_eq!(cases.tally.cases, 300 + drills + corners + RING_CASES + GREEN_CASES + LOCK_CASES);
+    let corners = ring_corners().len() + green_corners().len() + lock_corners().len() + serial_corners().len();
+    assert_eq!(cases.tally.cases, 300 + drills + corners + RING_CASES + GREEN_CASES + LOCK_CASES + SERIAL_CASES);
     assert!(cases.input.len() <= MOST_INPUT);
     assert_eq!(cases.tally.rare(5), Vec::<usize>::new());
     assert!(cases.tally.cut >= 5 && cases.tally.silent >= 1);
@@ -83,7 +85,8 @@ fn checksum(bytes: &[u8]) -> u64 {
 }
 
 /// The cases that were stored before there were wide configurations come first, byte for byte; then those of wide ones,
-/// then those of devices with rings, then those of green zones, of which one example has none, then those of locks.
+/// then those of devices with rings, then those of green zones, of which one example has none, then those of locks,
+/// then those of serials, of which most have a file of edition 2.
 #[test]
 fn the_cases_of_before_come_first() {
     let cases = with_drills(1, 300, 120_000);
@@ -100,9 +103,13 @@ fn the_cases_of_before_come_first() {
     assert_eq!(checksum(&cases.input[..159_834]), 0x8723_EF9D_2632_136D);
     let behind = stored::cases(&cases.input[147_001..159_834]).expect("whole cases");
     assert_eq!(behind.iter().filter(|case| codes(&case.session).contains(&13)).count(), behind.len() - 1);
-    let behind = stored::cases(&cases.input[159_834..]).expect("whole cases");
+    assert_eq!(checksum(&cases.input[..169_611]), 0x9953_F3AA_8537_93EF);
+    let behind = stored::cases(&cases.input[159_834..169_611]).expect("whole cases");
     let locks = |case: &&Folder| codes(&case.session).iter().any(|code| matches!(code, 14 | 15));
     assert_eq!(behind.iter().filter(locks).count(), behind.len());
+    let behind = stored::cases(&cases.input[169_611..]).expect("whole cases");
+    let second = behind.iter().filter(|case| case.line.first() == Some(&2)).count();
+    assert!(second * 3 > behind.len() * 2, "{second} of {}", behind.len());
 }
 
 /// The codes of a session's records; 0 for one that cannot be read.
@@ -116,13 +123,17 @@ fn count_of(cases: &[Folder], wanted: &[usize]) -> usize {
     cases.iter().flat_map(|case| codes(&case.session)).filter(|code| wanted.contains(code)).count()
 }
 
-/// What a case printed when there was no code above this one: a record of such a code could not be read, like the empty
-/// one that stands in its place here. What is cut at the end stays.
+/// What a case printed when there was no code above this one, and no number above 65,535: a record with one could not
+/// be read, like the empty one that stands in its place here. What is cut at the end stays.
 fn text_up_to(last: usize, case: &Folder) -> String {
+    if let Err(number) = load_by(&RULES_BEFORE, &case.line) {
+        return format!("line {number}\n");
+    }
     let mut session = Vec::new();
     let mut rest = &case.session[..];
     while let Some(record) = next_record(&mut Reader::new(rest)).filter(|_| !rest.is_empty()) {
-        let known = operation::read(record).is_none_or(|operation| operation.code() <= last);
+        let read = operation::read_up_to(RULES_BEFORE.most_number, record);
+        let known = read.is_some_and(|operation| operation.code() <= last);
         let kept = if known { record } else { &[] };
         varint::write(kept.len(), &mut session);
         session.extend(kept);
@@ -134,9 +145,33 @@ fn text_up_to(last: usize, case: &Folder) -> String {
     text(&case.line, &session)
 }
 
+/// The cases, from 1, whose file or one of whose records has a number from 65,536 on, and was refused by 2 or by 10
+/// before there were serials.
+const WITH_LARGE_NUMBERS: [usize; 11] = [93, 111, 137, 147, 165, 255, 291, 471, 518, 550, 551];
+
+/// One row of each of these cases is another one since there are serials: a file is refused by 3 and not by 2, a record
+/// by 11 and not by 10.
+#[test]
+fn large_numbers_in_the_cases_of_before() {
+    let stored = with_drills(1, 300, 120_000);
+    let cases = stored::cases(&stored.input[..169_611]).expect("whole cases");
+    let changed = cases.iter().zip(1..).filter(|(case, _)| text(&case.line, &case.session) != text_up_to(15, case));
+    let mut numbers = Vec::new();
+    for (case, number) in changed {
+        let (before, now) = (text_up_to(15, case), text(&case.line, &case.session));
+        let rows: Vec<(&str, &str)> = before.lines().zip(now.lines()).filter(|(before, now)| before != now).collect();
+        let &[(before, now)] = &rows[..] else { panic!("{rows:?}") };
+        let place = before.strip_suffix(" 10").map(|place| format!("{place} 11"));
+        assert!(place.as_deref() == Some(now) || (before, now) == ("line 2", "line 3"), "{before} {now}");
+        numbers.push(number);
+    }
+    assert_eq!(numbers, WITH_LARGE_NUMBERS);
+}
+
 /// Two of the files stored before there were rings have a hardcoded value that writes a descriptor: they were refused
 /// by 6 then. Two records stored before there were green zones have code 13, and were refused by 10; two of those
-/// stored before there were locks have code 14 or 15. All others have their answers of before.
+/// stored before there were locks have code 14 or 15. Eleven rows are about numbers from 65,536 on. All others have
+/// their answers of before.
 #[test]
 fn the_cases_of_before_keep_their_answers() {
     let stored = with_drills(1, 300, 120_000);
@@ -144,6 +179,7 @@ fn the_cases_of_before_keep_their_answers() {
     let expected = |cases: &[Folder], text: &dyn Fn(&Folder) -> String| -> Vec<u8> {
         cases.iter().flat_map(|case| (text(case) + ".\n").into_bytes()).collect()
     };
+    assert_eq!(checksum(&expected(&before(169_611), &|case| text_up_to(15, case))), 0xCAB4_6960_3866_8019);
     assert_eq!(count_of(&before(159_834), &[14, 15]), 2);
     assert_eq!(checksum(&expected(&before(159_834), &|case| text_up_to(13, case))), 0x98AA_ECF6_A78C_78BE);
     assert_eq!(count_of(&before(147_001), &[13]), 2);

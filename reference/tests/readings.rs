@@ -61,7 +61,8 @@ fn numbers_of_the_file() {
     assert_eq!(load_check(&[1, 0, 0, 0, 0, 128, 128]), 4, "malformed bytes left over");
     assert_eq!(load_check(&[129, 128, 128, 128]), 1, "no last byte, however long");
     assert_eq!(load_check(&[129, 128, 128, 0, 200]), 2);
-    assert_eq!(load_check(&[240, 162, 4]), 2, "70,000");
+    assert_eq!(load_check(&[240, 162, 4]), 3, "70,000");
+    assert_eq!(load_check(&[128, 128, 128, 1]), 2, "2,097,152");
 }
 
 #[test]

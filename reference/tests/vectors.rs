@@ -1,5 +1,5 @@
-//! The program `vectors` on cases of each kind that requests N2, N3 and N7 brought, and on those whose areas have another
-//! length since N2, and another again since N6. A row's checksum is worked out here anew.
+//! The program `vectors` on cases of each kind that requests N2, N3 and N7 brought, and on those whose areas have
+//! another length since N2, and another again since N6. A row's checksum is worked out here anew.
 
 mod common;
 
@@ -148,7 +148,7 @@ fn cases_that_are_none() {
         (9, operated(&file_l(), SMALL_AREA, &[(SMALL_AREA, 1)])),
         (9, operated(&file_l(), 0, &[(0, 0)])),
         (0, vec![]),
-        (14, operated(&file_l(), SMALL_AREA, &[])),
+        (15, operated(&file_l(), SMALL_AREA, &[])),
     ];
     assert_eq!(rows(&others), [NONE; 5]);
 }

@@ -87,7 +87,7 @@ fn state_bytes_tells_the_length_or_the_question() {
     assert_eq!(state_bytes(&file_l()), SMALL_AREA as u64);
     assert_eq!(state_bytes(&[]), REFUSED + 1);
     assert_eq!(state_bytes(&[129, 0]), REFUSED + 2);
-    assert_eq!(state_bytes(&[2]), REFUSED + 3);
+    assert_eq!(state_bytes(&[3]), REFUSED + 3);
     assert_eq!(state_bytes(&[file_l(), vec![0]].concat()), REFUSED + 4);
     assert_eq!(state_bytes(&row(&[1, 0, 1, 0, 0, 0])), REFUSED + 5);
     assert_eq!(state_bytes(&row(&[1, 0, 1, 2, 1, 4, 2, 1, 3, 0, 0, 1, 1, 2, 1, 0])), REFUSED + 6);
@@ -98,7 +98,7 @@ fn n_goes_up_to_192() {
     for objects in [96, 97, 127, 128, 191, 192] {
         assert_eq!(load_check(&plain_line(objects)), 0, "{objects}");
     }
-    for objects in [193, 194, 255, 256, 65_535] {
+    for objects in [193, 194, 255, 256, 65_535, 65_536, 2_097_151] {
         assert_eq!(load_check(&plain_line(objects)), 3, "{objects}");
         assert_eq!(load_check(&row(&[1, 0, 0, objects])), 3, "{objects}");
     }

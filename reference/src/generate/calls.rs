@@ -105,18 +105,14 @@ impl Calls {
         for _ in 0..self.rng.between(0, 3) {
             let number = self.rng.between(1, 6) as u8;
             let line = broken::line(&mut self.rng, &self.world, number);
-            let function = [Function::LoadCheck, Function::Fresh, Function::Operate][self.rng.below(3)];
-            let call = self.call(function, line);
-            self.queue.push_back(call);
+            self.put_beside(line);
         }
         if self.rng.percent(40) {
             let call = self.widened();
             self.queue.push_back(call);
         }
         if let Some(line) = serials::changed(&mut self.rng, &self.world) {
-            let function = [Function::LoadCheck, Function::Fresh, Function::Operate][self.rng.below(3)];
-            let call = self.call(function, line);
-            self.queue.push_back(call);
+            self.put_beside(line);
         }
         if self.rng.percent(25) {
             let mut call = self.call(Function::Fresh, line.clone());
@@ -125,6 +121,13 @@ impl Calls {
         }
         let fresh = Call { carried: true, ..self.call(Function::Fresh, line) };
         self.queue.push_back(fresh);
+    }
+
+    /// A call of any function with another file than the session's.
+    fn put_beside(&mut self, line: Vec<u8>) {
+        let function = [Function::LoadCheck, Function::Fresh, Function::Operate][self.rng.below(3)];
+        let call = self.call(function, line);
+        self.queue.push_back(call);
     }
 
     /// A file that announces many objects, with a fresh state in an area of either length.

@@ -64,7 +64,7 @@ fn corner_lines() -> Vec<Folder> {
 }
 
 /// The P sequence over L.
-fn sequence_p() -> Folder {
+pub fn sequence_p() -> Folder {
     let records: [&[u8]; 17] = [
         &[5, 1],
         &[5, 2],

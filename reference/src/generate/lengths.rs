@@ -1,8 +1,9 @@
 //! State areas of every length for configurations of both kinds, those with locks (request N6) around the lengths of
-//! before and of now, lock bytes of every value, and files of wide configurations that are cut at every byte.
+//! before and of now, lock bytes of every value, and files of wide configurations and of edition 2, cut at every byte.
 
 use super::calls::{Call, Function};
 use super::rng::Rng;
+use super::serials::{label, labelled};
 use super::worlds::{Size, WIDE_COUNTS, World, world};
 use crate::config::load;
 use crate::limits::{ANSWER_BYTES, FIRST_EDITION, MAX_DEVICES, MAX_OBJECTS, SMALL_ROOM, area_bytes, locks_place};
@@ -120,6 +121,15 @@ pub fn wide_worlds(rng: &mut Rng) -> [World; WIDE_COUNTS.len()] {
                 return world;
             }
         }
+    })
+}
+
+/// Worlds of the edition with serials (request N7), small ones and a wide one.
+pub fn serial_worlds(rng: &mut Rng) -> [World; 4] {
+    [Size::Small, Size::Medium, Size::Full, Size::Wide].map(|size| {
+        let mut world = labelled(rng, size);
+        label(rng, &mut world);
+        world
     })
 }
 

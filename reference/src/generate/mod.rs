@@ -18,6 +18,7 @@ pub mod refused;
 pub mod rewrites;
 pub mod rings;
 pub mod rng;
+pub mod serial_corners;
 pub mod serials;
 pub mod sessions;
 pub mod stored;

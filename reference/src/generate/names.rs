@@ -75,7 +75,8 @@ impl Scene<'_> {
     /// A number that does not exist: 0 where that is one, the first beyond, or far beyond.
     pub fn unknown(&mut self, name: Name) -> usize {
         let beyond = self.last(name) + 1;
-        match self.rng.weighted(&[40, 30, 10, 10, 10]) {
+        let weights = if self.world.serials { [30, 20, 10, 15, 25] } else { [40, 30, 10, 10, 10] };
+        match self.rng.weighted(&weights) {
             0 if !matches!(name, Name::Value | Name::Destination) => 0,
             0 | 1 => beyond,
             2 => self.rng.between(beyond, beyond + 40),

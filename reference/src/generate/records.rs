@@ -4,6 +4,7 @@
 use super::broken;
 use super::likely::Scene;
 use super::rng::Rng;
+use super::serials::with_large_number;
 use super::worlds::World;
 use crate::closure::closure;
 use crate::gate::{Judgement, judge};
@@ -90,6 +91,10 @@ fn proposed(rng: &mut Rng, world: &World, state: &State, wanted: u8) -> Vec<u8> 
 }
 
 fn random(rng: &mut Rng, world: &World, state: &State) -> Vec<u8> {
+    if world.serials && rng.percent(30) {
+        let operation = Scene { rng, world, state }.anything();
+        return with_large_number(rng, &operation);
+    }
     if rng.percent(15) {
         let count = rng.below(20);
         let mut bytes = rng.bytes(count);

@@ -5,7 +5,8 @@ use super::broken::{LARGE, bad_number};
 use super::locks::locking;
 use super::rng::Rng;
 use super::worlds::{Size, World};
-use crate::limits::{LAST_EDITION, MAX_NUMBER_BEFORE, MAX_SERIAL, SERIALS_FROM};
+use crate::limits::{LAST_EDITION, MAX_NUMBER, MAX_NUMBER_BEFORE, MAX_SERIAL, SERIALS_FROM};
+use crate::operation::Operation;
 use crate::tokens::{self, Token, row, serial_place};
 
 /// Serials that matter: none, those around a number's lengths, around the limit of before, and the largest.
@@ -36,8 +37,8 @@ pub fn some_serial(rng: &mut Rng) -> usize {
 }
 
 /// The world's file with something changed at one of its serials: cut before or inside it, in a form that question 2
-/// refuses, another serial, left out, put before the value number, or behind a value number that is out of range.
-/// Nothing if the file has no serial.
+/// refuses, another serial, left out, put before the value number, or behind a value number that is out of range; or of
+/// an edition that is none. Nothing if the file has no serial.
 pub fn changed(rng: &mut Rng, world: &World) -> Option<Vec<u8>> {
     let config = &world.config;
     if config.edition < SERIALS_FROM || config.devices() == 0 {
@@ -46,12 +47,13 @@ pub fn changed(rng: &mut Rng, world: &World) -> Option<Vec<u8>> {
     let device = [1, config.devices(), rng.between(1, config.devices())][rng.below(3)];
     let place = serial_place(config.objects.len(), device);
     let mut tokens = tokens::of_config(config);
-    match rng.weighted(&[30, 25, 15, 10, 10, 10]) {
+    match rng.weighted(&[30, 25, 15, 10, 10, 10, 10]) {
         0 => return Some(cut_inside(rng, &tokens[..place])),
         1 => tokens[place] = Token::Bytes(bad_number(rng, config.serials[device - 1], MAX_SERIAL)),
         2 => tokens[place] = Token::Number(some_serial(rng)),
         3 => drop(tokens.remove(place)),
         4 => tokens.swap(place - 1, place),
+        5 => tokens[0] = Token::Number([0, LAST_EDITION + 1, LARGE][rng.below(3)]),
         _ => tokens[place - 1] = Token::Number([config.values.len() + 1, LARGE, MAX_SERIAL][rng.below(3)]),
     }
     Some(tokens::encode(&tokens))
@@ -62,4 +64,16 @@ fn cut_inside(rng: &mut Rng, before: &[Token]) -> Vec<u8> {
     let mut serial = row(&[rng.between(MAX_NUMBER_BEFORE, MAX_SERIAL)]);
     serial.truncate(rng.below(serial.len()));
     [tokens::encode(before), serial].concat()
+}
+
+/// An operation's record with a number from 65,536 on in the place of one of its numbers: code, count and form too.
+pub fn with_large_number(rng: &mut Rng, operation: &Operation) -> Vec<u8> {
+    let mut tokens = tokens::of_operation(operation);
+    let places: Vec<usize> = (0..tokens.len()).filter(|place| matches!(tokens[*place], Token::Number(_))).collect();
+    if let Some(place) = rng.pick(&places) {
+        let any = rng.between(MAX_NUMBER_BEFORE + 1, MAX_NUMBER);
+        let numbers = [MAX_NUMBER_BEFORE + 1, MAX_NUMBER_BEFORE + 2, LARGE, MAX_NUMBER, any];
+        tokens[place] = Token::Number(numbers[rng.below(numbers.len())]);
+    }
+    tokens::encode(&tokens)
 }

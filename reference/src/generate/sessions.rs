@@ -6,6 +6,7 @@ use super::locks::locking;
 use super::records::{self, Want};
 use super::rings::ringed;
 use super::rng::Rng;
+use super::serials::labelled;
 use super::worlds::{Size, World, world};
 use crate::limits::{MAX_NUMBER, MAX_NUMBER_BEFORE};
 use crate::state::State;
@@ -29,9 +30,15 @@ pub enum End {
 /// What breaks a world's file for a question.
 type Breaking = fn(&mut Rng, &World, u8) -> Vec<u8>;
 
-/// A folder of this size with about `records` records; `focus` is a number to see often. Some lines have rings, and all
-/// sessions green zones and locks.
+/// A folder of this size with about `records` records; `focus` is a number to see often. Lines are of both editions,
+/// some have rings, and all sessions green zones and locks.
 pub fn folder(rng: &mut Rng, size: Size, records: usize, focus: Option<u8>) -> Folder {
+    let world = labelled(rng, size);
+    folder_over(rng, &world, records, focus, broken::line)
+}
+
+/// The same without serials, as it was before there were any.
+pub fn folder_with_locks(rng: &mut Rng, size: Size, records: usize, focus: Option<u8>) -> Folder {
     let world = locking(rng, size);
     folder_over(rng, &world, records, focus, broken::line)
 }

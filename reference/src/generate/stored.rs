@@ -5,10 +5,11 @@
 use super::corners::{corners, file_l, green_corners, lock_corners, ring_corners};
 use super::drills::{self, Point};
 use super::rng::Rng;
-use super::sessions::{Folder, folder, folder_of_before, folder_with_greens, folder_with_rings};
+use super::serial_corners::serial_corners;
+use super::sessions::{Folder, folder, folder_of_before, folder_with_greens, folder_with_locks, folder_with_rings};
 use super::worlds::Size;
 use crate::config::load;
-use crate::limits::{LINE_LIMIT, SESSION_LIMIT};
+use crate::limits::{LAST_EDITION, LINE_LIMIT, SESSION_LIMIT};
 use crate::office::report;
 use std::fmt;
 
@@ -102,10 +103,11 @@ pub fn cases(mut input: &[u8]) -> Option<Vec<Folder>> {
 }
 
 /// Cases as in `stored`, and behind them the drills, then cases of devices with rings, then those of green zones, then
-/// those of locks.
+/// those of locks, then those of serials.
 pub fn with_drills(seed: u64, count: usize, bytes: usize) -> Stored {
     let mut stored = stored(seed, count, bytes);
-    let (points, lock_points) = drills::POINTS.split_at(drills::BEFORE_LOCKS);
+    let (points, serial_points) = drills::POINTS.split_at(drills::BEFORE_SERIALS);
+    let (points, lock_points) = points.split_at(drills::BEFORE_LOCKS);
     let (points, green_points) = points.split_at(drills::BEFORE_GREENS);
     stored.push_drills(seed, points);
     ring_corners().iter().for_each(|folder| stored.push(folder));
@@ -116,7 +118,28 @@ pub fn with_drills(seed: u64, count: usize, bytes: usize) -> Stored {
     stored.push_drills(seed, lock_points);
     lock_corners().iter().for_each(|folder| stored.push(folder));
     (0..LOCK_CASES).for_each(|case| stored.push(&lock_folder(seed, case)));
+    stored.push_drills(seed, serial_points);
+    serial_corners().iter().for_each(|folder| stored.push(folder));
+    (0..SERIAL_CASES).for_each(|case| stored.push(&serial_folder(seed, case)));
     stored
+}
+
+/// How many generated cases have serials, where their random source begins, and how long they are at most.
+pub const SERIAL_CASES: usize = 12;
+const SERIAL_PART: usize = 400_000;
+const SERIAL_BYTES: usize = 400;
+
+/// A generated case of edition 2 that shows one of these numbers.
+fn serial_folder(seed: u64, case: usize) -> Folder {
+    let mut rng = Rng::part(seed, (SERIAL_PART + case) as u64);
+    let focus = [11, 10, 19, 2, 20, 3][case % 6];
+    loop {
+        let folder = some_folder(&mut rng, focus, folder);
+        let second = folder.line.first().is_some_and(|edition| usize::from(*edition) == LAST_EDITION);
+        if second && is_met(&folder, focus) && folder.line.len() + folder.session.len() <= SERIAL_BYTES {
+            return folder;
+        }
+    }
 }
 
 /// How many generated cases have locks, where their random source begins, and how long they are at most.
@@ -128,7 +151,7 @@ const LOCK_BYTES: usize = 500;
 fn lock_folder(seed: u64, case: usize) -> Folder {
     let mut rng = Rng::part(seed, (LOCK_PART + case) as u64);
     loop {
-        let folder = some_folder(&mut rng, 23, folder);
+        let folder = some_folder(&mut rng, 23, folder_with_locks);
         if is_met(&folder, 23) && folder.line.len() + folder.session.len() <= LOCK_BYTES {
             return folder;
         }

@@ -15,6 +15,7 @@ mod transfers;
 mod wide;
 
 use super::rng::Rng;
+use super::serials::label;
 use super::worlds::WIDE_COUNTS;
 use crate::limits::{MAX_OBJECTS, MAX_ONE_BYTE, MAX_VALUES};
 use ladders::{WAYS, Way};
@@ -58,10 +59,11 @@ pub enum Point {
     GreenStandings,
     GreenWide,
     Locks(Locking),
+    Serials,
 }
 
 /// All points, and how many drills of each are stored. Those stored first keep their places when others are added.
-pub const POINTS: [(Point, usize); 35] = [
+pub const POINTS: [(Point, usize); 36] = [
     (Point::CrossingByWrite, 8),
     (Point::CrossingByCopy, 4),
     (Point::LeavingByChain, 8),
@@ -97,17 +99,18 @@ pub const POINTS: [(Point, usize); 35] = [
     (Point::Locks(Locking::Drivers), 3),
     (Point::Locks(Locking::Rings), 5),
     (Point::Locks(Locking::Wide), 2),
+    (Point::Serials, 11),
 ];
 
-/// Where the points of devices with rings begin, behind them those of green zones, and those of locks.
+/// Where the points of devices with rings begin, behind them those of green zones, of locks, and of serials.
 const BEFORE_RINGS: usize = 15;
 pub const BEFORE_GREENS: usize = 23;
 pub const BEFORE_LOCKS: usize = 31;
+pub const BEFORE_SERIALS: usize = 35;
 
 /// A drill for a point; `turn` goes through the point's ways.
 fn drill(rng: &mut Rng, point: Point, turn: usize) -> Drill {
-    let way = WAYS[turn % WAYS.len()];
-    let inside = turn % 2 == 1;
+    let (way, inside) = (WAYS[turn % WAYS.len()], turn % 2 == 1);
     let [fewest, first_of_two_bytes, one_absent, most] = WIDE_COUNTS;
     match point {
         Point::CrossingByWrite => ladders::crossing(rng, way, false),
@@ -142,7 +145,31 @@ fn drill(rng: &mut Rng, point: Point, turn: usize) -> Drill {
         Point::GreenStandings => colours::standings(rng),
         Point::GreenWide => greens::clauses(rng, MAX_ONE_BYTE),
         Point::Locks(way) => locks::drill(rng, way, turn),
+        Point::Serials => with_serials(rng, LABELLED[turn % LABELLED.len()], turn / LABELLED.len()),
     }
+}
+
+/// The points whose drills are made with serials too, which must not change an answer.
+const LABELLED: [Point; 11] = [
+    Point::PairsNotStates,
+    Point::StoredValues,
+    Point::LeavingWriter,
+    Point::EachLeavingCode,
+    Point::RingLeaving,
+    Point::RingPair,
+    Point::RingChoice,
+    Point::GreenLeaving,
+    Point::Locks(Locking::Standings),
+    Point::DeviceCopies,
+    Point::Locks(Locking::Wide),
+];
+
+/// A drill for another point over a line of edition 2.
+fn with_serials(rng: &mut Rng, point: Point, turn: usize) -> Drill {
+    let mut drill = drill(rng, point, turn);
+    drill.world.serials = true;
+    label(rng, &mut drill.world);
+    drill
 }
 
 const fn leaving(steps: usize, way: Way, behind: usize) -> Leaving {
@@ -203,7 +230,7 @@ pub fn any_green(rng: &mut Rng) -> Drill {
 
 /// Any drill with locks.
 pub fn any_lock(rng: &mut Rng) -> Drill {
-    any_of(rng, &POINTS[BEFORE_LOCKS..])
+    any_of(rng, &POINTS[BEFORE_LOCKS..BEFORE_SERIALS])
 }
 
 fn any_of(rng: &mut Rng, points: &[(Point, usize)]) -> Drill {
