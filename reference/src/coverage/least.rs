@@ -3,10 +3,13 @@
 use super::chains::{ORDERS, Order};
 use super::greens::Greens;
 use super::locks::Locks;
+use super::serials::{Role, Serials};
 use super::wide::Wide;
 use super::{Coverage, LONGEST, Noticed};
-use crate::faults::{Fault, LOADERS};
+use crate::faults::{Fault, LOADERS, READERS};
+use crate::generate::serials::SERIALS;
 use crate::generate::worlds::WIDE_COUNTS;
+use crate::limits::LAST_EDITION;
 use std::fmt;
 
 /// Chains of each length: those that cross, in each order, and those that end at what leaves.
@@ -43,7 +46,17 @@ const LOCKED: [(usize, u8, usize); 11] = [
 const BESIDE_LOCKS: [(usize, usize); 11] =
     [(1, 10), (3, 8), (5, 8), (6, 5), (7, 10), (8, 20), (9, 10), (10, 8), (11, 10), (12, 5), (13, 10)];
 const WIDE_LOCKED: usize = 16;
-/// Files that a faulty question 6 answers in another way.
+/// Of serials (request N7): cases of edition 2, serials of each kind that matters, files of edition 2 that are refused
+/// at a serial, files of no edition, and records with a number from 65,536 on, for each code and each role.
+const EDITION_CASES: usize = 30;
+const EACH_SERIAL: usize = 2;
+const AT_SERIALS: usize = 4;
+const NO_EDITION: usize = 8;
+const UNKNOWN: usize = 4;
+const UNREADABLE: [(Role, usize); 3] = [(Role::Code, 40), (Role::Count, 20), (Role::Form, 5)];
+/// The last code.
+const CODES: usize = 15;
+/// Files that a faulty question 6, or another loader, answers in another way.
 const FILES: usize = 3;
 /// Calls that notice a fault, for each right answer that must show it.
 const CALLS: usize = 5;
@@ -104,18 +117,20 @@ impl Coverage {
             let count = self.entering.get(&(steps + 1)).copied().unwrap_or(0);
             Row { name: format!("rings that leave after {steps} steps"), count, least: RINGS }
         });
-        let files = LOADERS.into_iter().zip(self.loaded).map(|((name, _), count)| Row {
-            name: format!("cases that notice '{name}'"),
-            count,
-            least: FILES,
-        });
-        steps.chain(files).collect()
+        let names = LOADERS.iter().map(|(name, _)| name);
+        steps.chain(names.zip(self.loaded).map(|(name, count)| file_row(name, count))).collect()
+    }
+
+    fn serial_rows(&self) -> Vec<Row> {
+        let names = READERS.iter().map(|(name, _)| name);
+        let files = names.zip(self.read).map(|(name, count)| file_row(name, count));
+        self.serials.rows().into_iter().chain(files).collect()
     }
 
     /// All rows but those of the faulty judges.
     fn rows(&self) -> Vec<Row> {
         let rows = [self.chain_rows(), self.refusal_rows(), self.ring_rows(), self.wide.rows(), self.greens.rows()];
-        rows.into_iter().flatten().chain(self.locks.rows()).collect()
+        rows.into_iter().flatten().chain(self.locks.rows()).chain(self.serial_rows()).collect()
     }
 
     /// What is below its least, and what contradicts itself.
@@ -133,6 +148,11 @@ impl Coverage {
         }
         list
     }
+}
+
+/// The cases whose file a faulty loader answers in another way.
+fn file_row(name: &str, count: usize) -> Row {
+    Row { name: format!("cases that notice '{name}'"), count, least: FILES }
 }
 
 fn longest(lengths: &[usize]) -> usize {
@@ -170,6 +190,33 @@ impl Locks {
         });
         let wide = row("devices locked in wide configurations".to_string(), Some(&self.wide), WIDE_LOCKED);
         [cases].into_iter().chain(records).chain(beside).chain([wide]).collect()
+    }
+}
+
+impl Serials {
+    fn rows(&self) -> Vec<Row> {
+        let row = |name: String, count: usize, least: usize| Row { name, count, least };
+        let second = self.editions.get(&LAST_EDITION).copied().unwrap_or(0);
+        let mut rows = vec![
+            row("cases of edition 2".to_string(), second, EDITION_CASES),
+            row("files cut before a serial".to_string(), self.cut_before, AT_SERIALS),
+            row("files cut inside a serial".to_string(), self.cut_inside, AT_SERIALS),
+            row("files refused by 2 in a serial".to_string(), self.malformed, AT_SERIALS),
+            row("files refused by 3 before a serial".to_string(), self.no_value, AT_SERIALS),
+            row("files of no edition".to_string(), self.no_edition, NO_EDITION),
+        ];
+        rows.extend(SERIALS.map(|serial| {
+            row(format!("devices with serial {serial}"), self.serials.get(&serial).copied().unwrap_or(0), EACH_SERIAL)
+        }));
+        rows.extend((1..=CODES).map(|code| {
+            let count = self.unknown.get(&code).copied().unwrap_or(0);
+            row(format!("large numbers refused by 11 of code {code}"), count, UNKNOWN)
+        }));
+        rows.extend(UNREADABLE.map(|(role, least)| {
+            let count = self.unreadable.get(&role).copied().unwrap_or(0);
+            row(format!("large numbers refused by 10 as {role:?}"), count, least)
+        }));
+        rows
     }
 }
 

@@ -5,12 +5,13 @@ pub mod chains;
 pub mod greens;
 mod least;
 pub mod locks;
+pub mod serials;
 pub mod wide;
 
 use crate::closure::{closure, crosses};
-use crate::config::{Config, load, load_with};
+use crate::config::{Config, load, load_by, load_with};
 use crate::effect;
-use crate::faults::{self, Fault, LOADERS};
+use crate::faults::{self, Fault, LOADERS, READERS};
 use crate::gate::judge;
 use crate::generate::Folder;
 use crate::limits::MAX_VALUES;
@@ -21,6 +22,7 @@ use crate::varint::Reader;
 use chains::{Chain, Order, shortest};
 use greens::Greens;
 use locks::Locks;
+use serials::Serials;
 use std::collections::BTreeMap;
 use wide::Wide;
 
@@ -60,11 +62,15 @@ pub struct Coverage {
     pub greens: Greens,
     /// What is shown of locks.
     pub locks: Locks,
+    /// What is shown of serials and large numbers.
+    pub serials: Serials,
     /// Calls that the closure judges in one way and the search for the shortest chain in the other.
     pub contradictions: usize,
     pub noticed: Vec<Noticed>,
     /// Cases whose file a faulty question 6 (`faults::LOADERS`) answers in another way, in the order of these.
     pub loaded: [usize; LOADERS.len()],
+    /// Cases whose file a loader that goes wrong with serials (`faults::READERS`) answers in another way.
+    pub read: [usize; READERS.len()],
 }
 
 /// A call on the right state, and what came of it.
@@ -89,12 +95,15 @@ impl Coverage {
             wide: Wide::default(),
             greens: Greens::default(),
             locks: Locks::default(),
+            serials: Serials::default(),
             contradictions: 0,
             noticed: noticed.collect(),
             loaded: [0; LOADERS.len()],
+            read: [0; READERS.len()],
         };
         for case in cases {
             coverage.count_loaders(&case.line);
+            coverage.serials.count_file(&case.line);
             if let Ok(config) = load(&case.line) {
                 coverage.count(&config, &calls(&config, &case.session));
             }
@@ -109,6 +118,7 @@ impl Coverage {
         self.locks.count(config, calls.iter().map(|call| (call.record, call.number, &call.after)));
         for call in calls {
             self.greens.count(config, &call.before, call.record, call.number);
+            self.serials.count(call.record, call.number);
             self.count_chain(config, call);
         }
         for noticed in &mut self.noticed {
@@ -121,6 +131,9 @@ impl Coverage {
         let right = load(line).err();
         for (count, (_, question)) in self.loaded.iter_mut().zip(LOADERS) {
             *count += usize::from(load_with(question, line).err() != right);
+        }
+        for (count, (_, rules)) in self.read.iter_mut().zip(READERS) {
+            *count += usize::from(load_by(&rules, line).err() != right);
         }
     }
 

@@ -1,7 +1,8 @@
 //! Judges that are faulty on purpose, each in one point. What is judged right by all of them tells nothing about that
 //! point: `coverage` counts the sessions that notice each. The plain judge knows nothing of this module. No session
 //! shows a state area that is broken or of another length, so walks over one (`walks`), and what goes wrong with its
-//! lock bytes (`lock_areas`), stand beside these judges.
+//! lock bytes (`lock_areas`), stand beside these judges; so do faulty questions 6, and loaders and writers that go
+//! wrong with editions and serials.
 
 mod answers;
 mod colours;
@@ -10,24 +11,27 @@ pub mod lock_areas;
 mod locks;
 mod rings;
 mod searches;
+mod serials;
 pub mod walks;
 mod wide;
 
 pub use green::UNREACHED as GREEN_UNREACHED;
 pub use locks::LOCKS;
 pub use rings::{LOADERS, UNREACHED};
+pub use serials::{READERS, WRITERS};
 
 use crate::closure::{Search, closure, limited};
 use crate::config::Config;
 use crate::effect;
 use crate::gate::Judgement;
-use crate::limits::{MAX_ONE_BYTE, SMALL_ROOM};
+use crate::limits::{MAX_NUMBER, MAX_ONE_BYTE, SMALL_ROOM};
 use crate::operation::{self, Operation};
 use crate::questions::{Case, QUESTIONS, Question};
 use crate::state::State;
 use colours::COLOURS;
 use green::GREENS;
 use rings::RINGS;
+use serials::SERIALS;
 
 /// What makes the state that follows.
 type Apply = fn(&Config, &State, &Operation) -> State;
@@ -61,6 +65,8 @@ pub struct Fault {
     taken: Option<Taken>,
     named: Named,
     kept: Option<Kept>,
+    /// The largest number that it reads in a record.
+    most_number: usize,
 }
 
 /// No fault: where each of those below begins.
@@ -78,7 +84,11 @@ const NONE: Fault = Fault {
     taken: None,
     named: |operation| operation,
     kept: None,
+    most_number: MAX_NUMBER,
 };
+
+/// All codes that there are.
+const ALL_CODES: &[usize] = &[1, 2, 3, 4, 5, 6, 7, 8, 9, 10, 11, 12, 13, 14, 15];
 
 const fn search(name: &'static str, search: Search) -> Fault {
     Fault { name, codes: &[1, 3, 8, 10, 11, 12], touches: &[19, 20, 21], search, ..NONE }
@@ -184,9 +194,8 @@ const OTHERS: [Fault; 7] = [
 
 /// A fault of wide configurations with at least so many objects: it can touch everything, and accepted calls show it.
 const fn wide(name: &'static str, objects: usize) -> Fault {
-    const CODES: &[usize] = &[1, 2, 3, 4, 5, 6, 7, 8, 9, 10, 11, 12, 13, 14, 15];
     const ANSWERS: &[u8] = &[0, 10, 11, 12, 13, 14, 15, 16, 17, 18, 19, 20, 21, 22, 23];
-    Fault { name, codes: CODES, touches: ANSWERS, asked: &[0], objects, ..NONE }
+    Fault { name, codes: ALL_CODES, touches: ANSWERS, asked: &[0], objects, ..NONE }
 }
 
 /// Faults of wide configurations (request N2). One of them shows only where there is a single object more than in small
@@ -217,7 +226,7 @@ const WIDE: [Fault; 7] = [
 
 /// All faults that sessions notice.
 pub fn all() -> Vec<Fault> {
-    [&SEARCHES[..], &DESCRIBED, &OTHERS, &WIDE, &RINGS, &GREENS, &COLOURS, &LOCKS].concat()
+    [&SEARCHES[..], &DESCRIBED, &OTHERS, &WIDE, &RINGS, &GREENS, &COLOURS, &LOCKS, &SERIALS].concat()
 }
 
 impl Fault {
@@ -241,7 +250,9 @@ pub fn judge(fault: &Fault, config: &Config, state: &State, record: &[u8]) -> Ju
     let config = taken.as_ref().unwrap_or(config);
     let kept = fault.kept.map(|kept| kept(config, state));
     let state = kept.as_ref().unwrap_or(state);
-    let operation = (fault.named)(operation::read(record).ok_or(10)?);
+    let operation = operation::read_up_to(fault.most_number, record).ok_or(10)?;
+    let touched = config.objects.len() >= fault.objects;
+    let operation = if touched { (fault.named)(operation) } else { operation };
     let case = Case { config, state, operation: &operation, search: fault.search };
     for (number, plain) in order(fault) {
         let question = fault.instead.filter(|(instead, _)| *instead == number).map_or(plain, |(_, question)| question);
