@@ -1,10 +1,12 @@
 //! State areas of both lengths: what length each file needs, in the answers of both; areas of every length for
 //! configurations of both kinds, and of those around the lengths of before there were locks and of now with locks in
-//! them; lock bytes of every value; files of wide configurations, cut at every byte.
+//! them; lock bytes of every value; files of wide configurations and of edition 2, cut at every byte.
 
 use crate::walks::Walks;
 use crate::{agreed, hex, library};
-use reference::generate::lengths::{EDGES, LOCKABLE, areas, cuts, lock_bytes, lock_lengths, wide_worlds};
+use reference::generate::lengths::{
+    EDGES, LOCKABLE, areas, cuts, lock_bytes, lock_lengths, serial_worlds, wide_worlds,
+};
 use reference::generate::{Call, Rng};
 use reference::limits::{STATE_BYTES, STATE_BYTES_WIDE, locks_place};
 use reference::{load, state_bytes};
@@ -56,8 +58,8 @@ impl Lengths {
         here == there
     }
 
-    /// Whether both do the same in areas of every length, with lock bytes of every value, and with wide files that are
-    /// cut anywhere.
+    /// Whether both do the same in areas of every length, with lock bytes of every value, and with files, wide ones and
+    /// those of edition 2, that are cut anywhere.
     pub fn agree_on_all(&mut self, seed: u64, walks: &mut Walks) -> bool {
         let mut rng = Rng::part(seed, 2);
         let mut same = |lengths: &mut Lengths, call: Call| {
@@ -71,6 +73,7 @@ impl Lengths {
                 calls.concat().into_iter().all(|call| same(self, call))
             })
             && wide_worlds(&mut rng).iter().all(|world| cuts(world).all(|call| same(self, call)))
+            && serial_worlds(&mut rng).iter().all(|world| cuts(world).all(|call| same(self, call)))
     }
 
     /// Takes in the configuration of a session.

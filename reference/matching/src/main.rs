@@ -1,12 +1,14 @@
 //! Compares the proved library with the second implementation over generated calls: the answer, all state bytes and all
 //! answer bytes after every call. The file of every session is rewritten besides (`rewrites`), every file is asked for
 //! the length of its state area (`lengths`), and every area for its first bad record (`walks`). Ends with 1 at the
-//! first difference, or if some number or kind of answer, or some code (`codes`), never occurs.
+//! first difference, or if some number or kind of answer, some code (`codes`), or something of editions, serials and
+//! large numbers (`serials`) never occurs.
 
 mod codes;
 mod lengths;
 mod library;
 mod rewrites;
+mod serials;
 mod walks;
 
 use codes::Codes;
@@ -15,6 +17,7 @@ use library::Result as Outcome;
 use reference::generate::{Call, Calls, Function};
 use reference::{fresh, load_check, operate};
 use rewrites::Rewrites;
+use serials::Serials;
 use std::fmt;
 use std::process::ExitCode;
 use walks::Walks;
@@ -58,6 +61,7 @@ fn compare(calls: u64, seed: u64) -> ExitCode {
         walks: Walks::new(seed),
         seen: [0; NUMBERS],
         codes: Codes::default(),
+        serials: Serials::default(),
     };
     let all_agree = comparison.lengths.agree_on_all(seed, &mut comparison.walks)
         && (1..=calls).all(|place| comparison.agrees_on_next(place));
@@ -83,6 +87,7 @@ struct Comparison {
     /// How often each number was answered.
     seen: [u64; NUMBERS],
     codes: Codes,
+    serials: Serials,
 }
 
 impl Comparison {
@@ -99,6 +104,7 @@ impl Comparison {
         };
         self.lengths.count(&call, here.number);
         self.codes.count(&call, here.number);
+        self.serials.count(&call, here.number);
         if let Some(count) = self.seen.get_mut(here.number as usize) {
             *count += 1;
         }
@@ -110,7 +116,8 @@ impl Comparison {
     fn agrees_on_session(&mut self) -> bool {
         let world = self.stream.world();
         self.lengths.count_session(world.config.is_wide());
-        self.rewrites.agree(world, &mut self.lengths) && self.walks.agree_on_damaged(world)
+        self.serials.count_session(&world.config);
+        self.rewrites.agree(world, &mut self.lengths, &mut self.serials) && self.walks.agree_on_damaged(world)
     }
 
     fn print(&self, calls: u64) {
@@ -120,6 +127,7 @@ impl Comparison {
         self.rewrites.print();
         self.lengths.print();
         self.walks.print();
+        self.serials.print();
         println!("0 differences");
     }
 
@@ -131,6 +139,7 @@ impl Comparison {
             .chain(self.rewrites.absent())
             .chain(self.lengths.absent())
             .chain(self.walks.absent())
+            .chain(self.serials.absent())
             .collect()
     }
 }

@@ -3,6 +3,7 @@
 use crate::hex;
 use crate::lengths::Lengths;
 use crate::library::{self, Rewritten};
+use crate::serials::Serials;
 use reference::generate::rewrites::rewrites;
 use reference::generate::{Rewrite, Rng, World};
 use reference::rewrite;
@@ -27,11 +28,11 @@ impl Rewrites {
 
     /// Whether both do the same with the world's file and with files made from it, and tell the same lengths of state
     /// areas for them; the first difference is printed.
-    pub fn agree(&mut self, world: &World, lengths: &mut Lengths) -> bool {
-        rewrites(&mut self.rng, world).iter().all(|call| self.agree_on(call) && lengths.agree(&call.line))
+    pub fn agree(&mut self, world: &World, lengths: &mut Lengths, serials: &mut Serials) -> bool {
+        rewrites(&mut self.rng, world).iter().all(|call| self.agree_on(call, serials) && lengths.agree(&call.line))
     }
 
-    fn agree_on(&mut self, call: &Rewrite) -> bool {
+    fn agree_on(&mut self, call: &Rewrite, serials: &mut Serials) -> bool {
         self.calls += 1;
         let (here, there) = (by_reference(call), library::rewrite(call));
         if here != there {
@@ -41,6 +42,7 @@ impl Rewrites {
         if let Some(count) = place(here.answer).and_then(|place| self.seen.get_mut(place)) {
             *count += 1;
         }
+        serials.count_rewrite(call, here.answer);
         true
     }
 
