@@ -66,11 +66,16 @@ fn cut_inside(rng: &mut Rng, before: &[Token]) -> Vec<u8> {
     [tokens::encode(before), serial].concat()
 }
 
+/// The place of the first item's form among the numbers of a write.
+const FIRST_FORM: usize = 4;
+
 /// An operation's record with a number from 65,536 on in the place of one of its numbers: code, count and form too.
 pub fn with_large_number(rng: &mut Rng, operation: &Operation) -> Vec<u8> {
     let mut tokens = tokens::of_operation(operation);
     let places: Vec<usize> = (0..tokens.len()).filter(|place| matches!(tokens[*place], Token::Number(_))).collect();
+    let form = matches!(operation, Operation::Write { .. }) && rng.percent(40);
     if let Some(place) = rng.pick(&places) {
+        let place = if form { FIRST_FORM } else { place };
         let any = rng.between(MAX_NUMBER_BEFORE + 1, MAX_NUMBER);
         let numbers = [MAX_NUMBER_BEFORE + 1, MAX_NUMBER_BEFORE + 2, LARGE, MAX_NUMBER, any];
         tokens[place] = Token::Number(numbers[rng.below(numbers.len())]);
