@@ -4,6 +4,7 @@ ghost use Prim.Native.Nat.{_+_, _*_, _≤_, _<_};
 ghost use lib.ListN.{length};
 ghost use Rattle.model.specs.Config.{mostObjects};
 ghost use Rattle.model.specs.State.{areaLength};
+use crate::memory::judge_serial_write;
 use crate::memory::judge_wide_write;
 use crate::memory::judge_write;
 use effect::ANSWER_BYTES;
@@ -18,7 +19,7 @@ use state::room::room_for;
 // and of a byte more; question 9; question 10; the writer on a configuration in memory, with columns for few objects;
 // making a fresh state in an area of any length; creating a partition on an area of any length and content; the length
 // that the line needs; the writer with columns for every object; the first bad record of an area of any length and
-// content; an operation of any bytes on such an area.
+// content; an operation of any bytes on such an area; the writer with columns for every object, an edition and serials.
 const LOAD: u8 = 1;
 
 const FRESH: u8 = 2;
@@ -44,6 +45,8 @@ const WRITE_WIDE: u8 = 11;
 const FIRST_BAD: u8 = 12;
 
 const OPERATE_IN: u8 = 13;
+
+const WRITE_SERIALS: u8 = 14;
 
 // How long the area of a case is at most.
 pub(crate) const MOST_AREA: usize = 4096;
@@ -340,6 +343,7 @@ pub(crate) fn judge(call: u8, bytes: &[u8]) -> Row {
         WRITE_WIDE => judge_wide_write(bytes),
         FIRST_BAD => judge_in(call, b"", bytes),
         OPERATE_IN => judge_record(call, bytes),
+        WRITE_SERIALS => judge_serial_write(bytes),
         _ => unknown(),
     }
 }

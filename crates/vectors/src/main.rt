@@ -7,7 +7,7 @@ use cases::Row;
 use libc::STDIN_FILENO;
 use libc::STDOUT_FILENO;
 
-const MOST_INPUT: usize = 212992;
+const MOST_INPUT: usize = 245760;
 
 const HEAD_BYTES: usize = 3;
 
