@@ -25,7 +25,16 @@ const SHORT_KIND: u64 = 2;
 fn write_question(config: Config) -> u8
     ensures { λ r. ⌜ r ≡ writeQuestion config ⌝ }
 {
-    if !in_ranges(config) {
+    if !in_ranges(
+        config.counts,
+        &config.objects.kind,
+        &config.objects.class,
+        &config.objects.owner,
+        &config.devices.hardcoded,
+        &config.devices.serial,
+        &config.values.count,
+        &config.values.entries,
+    ) {
         return 3;
     }
     let mut owned = [0u8; DEVICE_SLOTS];

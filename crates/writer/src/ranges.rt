@@ -6,12 +6,11 @@ ghost use mathlib.Core.List.{[], _∷_};
 ghost use Rattle.model.specs.Config.{mostDevices, mostValues, mostEntries};
 ghost use Rattle.model.specs.ConfigFile.{countsRow, entryRow};
 ghost use Rattle.model.specs.ConfigWrite.{countsNumbers, inRow, inRanges};
-ghost use Rattle.sound.specs.Columns.{Within};
+ghost use Rattle.sound.specs.Columns.{configOf, Within};
 ghost use Rattle.sound.specs.Sound.{everyTo};
 ghost use Rattle.writer.specs.Tests.{objectRight, serialMost, deviceRight, entryRight, valueRight};
 use config::groups::is_object;
 use config::values::may_store;
-use model::Config;
 use model::Counts;
 use model::DEVICE_SLOTS;
 use model::ENTRY_BYTES;
@@ -189,35 +188,30 @@ fn values_right<'a>(
     true
 }
 
-// Every field.
-pub(crate) fn in_ranges(config: Config) -> bool
-    ensures { λ r. ⌜ r ≡ inRanges config ⌝ }
+// Every field. The columns are lent, since a configuration is long to copy.
+pub(crate) fn in_ranges<'a>(
+    counts: Counts,
+    kind: &'a [u8; OBJECT_SLOTS],
+    class: &'a [u8; OBJECT_SLOTS],
+    owner: &'a [u8; OBJECT_SLOTS],
+    hardcoded: &'a [u8; DEVICE_SLOTS],
+    serial: &'a [u32; DEVICE_SLOTS],
+    count: &'a [u8; VALUE_SLOTS],
+    entries: &'a [u8; ENTRY_SLOTS],
+) -> bool
+    ensures { λ r.
+        ⌜ r ≡ inRanges (configOf counts (now (kind .entry)) (now (class .entry)) (now (owner .entry))
+        (now (hardcoded .entry)) (now (serial .entry)) (now (count .entry)) (now (entries .entry))) ⌝ }
 {
-    let counts = config.counts;
     if !counts_right(counts) {
         return false;
     }
-    if !objects_right(
-        counts,
-        &config.objects.kind,
-        &config.objects.class,
-        &config.objects.owner,
-    ) {
+    if !objects_right(counts, kind, class, owner) {
         return false;
     }
-    if !devices_right(
-        counts.devices,
-        counts.values,
-        most_serial(counts.edition),
-        &config.devices.hardcoded,
-        &config.devices.serial,
-    ) {
+    let top = most_serial(counts.edition);
+    if !devices_right(counts.devices, counts.values, top, hardcoded, serial) {
         return false;
     }
-    values_right(
-        counts,
-        &config.objects.kind,
-        &config.values.count,
-        &config.values.entries,
-    )
+    values_right(counts, kind, count, entries)
 }

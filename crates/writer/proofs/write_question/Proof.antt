@@ -17,14 +17,16 @@ is-paired-requires : tie.Need-is-paired-requires
 is-paired-requires c κs =
     let e = c .before .before .before .before .before .before in
     let a = e .before .in-ranges in
-    (Writing.ranges-within _ _ (a .ensures) (not-false (a .result) (e .if1 .left)), refl)
+    let config = e .before .before .before .before .before .before .before .before .before .before .before .args .t1 in
+    (Writing.ranges-within config _ (a .ensures) (not-false (a .result) (e .if1 .left)), refl)
 
 returns-2 : tie.Need-returns-2
 returns-2 c =
     let p = c .before in
     let e = p .before .before .before .before .before .before .before in
     let a = e .before .in-ranges in
-    Writing.ask-five _ _ (a .ensures) (not-false (a .result) (e .if1 .left)) _ (p .is-paired .ensures)
+    let config = e .before .before .before .before .before .before .before .before .before .before .before .args .t1 in
+    Writing.ask-five config _ (a .ensures) (not-false (a .result) (e .if1 .left)) _ (p .is-paired .ensures)
     (not-true (p .is-paired .result) (c .if2 .taken))
 
 is-restrained-requires : tie.Need-is-restrained-requires
@@ -32,7 +34,8 @@ is-restrained-requires c κs =
     let p = c .before .before .before .before .before .before .before .before .before in
     let e = p .before .before .before .before .before .before .before in
     let a = e .before .in-ranges in
-    Writing.ranges-within _ _ (a .ensures) (not-false (a .result) (e .if1 .left))
+    let config = e .before .before .before .before .before .before .before .before .before .before .before .args .t1 in
+    Writing.ranges-within config _ (a .ensures) (not-false (a .result) (e .if1 .left))
 
 returns-3 : tie.Need-returns-3
 returns-3 c =
@@ -40,7 +43,8 @@ returns-3 c =
     let p = f .before in
     let e = p .before .before .before .before .before .before .before in
     let a = e .before .in-ranges in
-    Writing.ask-none _ _ (a .ensures) (not-false (a .result) (e .if1 .left)) _ (p .is-paired .ensures)
+    let config = e .before .before .before .before .before .before .before .before .before .before .before .args .t1 in
+    Writing.ask-none config _ (a .ensures) (not-false (a .result) (e .if1 .left)) _ (p .is-paired .ensures)
     (not-false (p .is-paired .result) (f .if2 .left)) _ (c .before .is-restrained .ensures) (c .if3 .taken)
 
 returns-4 : tie.Need-returns-4
@@ -49,7 +53,8 @@ returns-4 c =
     let p = f .before in
     let e = p .before .before .before .before .before .before .before in
     let a = e .before .in-ranges in
-    Writing.ask-six _ _ (a .ensures) (not-false (a .result) (e .if1 .left)) _ (p .is-paired .ensures)
+    let config = e .before .before .before .before .before .before .before .before .before .before .before .args .t1 in
+    Writing.ask-six config _ (a .ensures) (not-false (a .result) (e .if1 .left)) _ (p .is-paired .ensures)
     (not-false (p .is-paired .result) (f .if2 .left)) _ (c .before .is-restrained .ensures) (c .if3 .left)
 
 pub write-question-spec : {M : Type 1} → statement M

@@ -15,14 +15,13 @@ returns c =
 
 objects-right-requires : tie.Need-objects-right-requires
 objects-right-requires c κs =
-    let e = c .before .before .before .before in
-    let a = e .before .counts-right in
-    Testing.counts-within _ (a .ensures) (not-false (a .result) (e .if1 .left))
+    let a = c .before .counts-right in
+    Testing.counts-within _ (a .ensures) (not-false (a .result) (c .if1 .left))
 
 returns-2 : tie.Need-returns-2
 returns-2 c =
     let o = c .before in
-    let e = o .before .before .before .before .before in
+    let e = o .before in
     let a = e .before .counts-right in
     Testing.ranges-objects _ _ (a .ensures) (not-false (a .result) (e .if1 .left)) _ (o .objects-right .ensures)
     (not-true (o .objects-right .result) (c .if2 .taken))
@@ -32,17 +31,17 @@ most-serial-requires c κs = search needs
 
 devices-right-requires : tie.Need-devices-right-requires
 devices-right-requires c κs =
-    let e = c .before .before .before .before .before .before .before .before .before .before in
+    let e = c .before .before .before in
     let a = e .before .counts-right in
     Testing.counts-within _ (a .ensures) (not-false (a .result) (e .if1 .left)) .devices
 
 returns-3 : tie.Need-returns-3
 returns-3 c =
     let d = c .before in
-    let m = d .before .before .before .before in
+    let m = d .before in
     let f = m .before in
     let o = f .before in
-    let e = o .before .before .before .before .before in
+    let e = o .before in
     let a = e .before .counts-right in
     Testing.ranges-devices _ _ (a .ensures) (not-false (a .result) (e .if1 .left)) _ (o .objects-right .ensures)
     (not-false (o .objects-right .result) (f .if2 .left)) _ (m .most-serial .ensures) _ (d .devices-right .ensures)
@@ -50,19 +49,18 @@ returns-3 c =
 
 values-right-requires : tie.Need-values-right-requires
 values-right-requires c κs =
-    let d = c .before .before .before .before .before in
-    let e = d .before .before .before .before .before .before .before .before .before .before .before in
+    let e = c .before .before .before .before .before in
     let a = e .before .counts-right in
     Testing.counts-within _ (a .ensures) (not-false (a .result) (e .if1 .left))
 
 returns-4 : tie.Need-returns-4
 returns-4 c =
-    let g = c .before .before .before .before .before in
+    let g = c .before in
     let d = g .before in
-    let m = d .before .before .before .before in
+    let m = d .before in
     let f = m .before in
     let o = f .before in
-    let e = o .before .before .before .before .before in
+    let e = o .before in
     let a = e .before .counts-right in
     Testing.ranges-values _ _ (a .ensures) (not-false (a .result) (e .if1 .left)) _ (o .objects-right .ensures)
     (not-false (o .objects-right .result) (f .if2 .left)) _ (m .most-serial .ensures) _ (d .devices-right .ensures)
