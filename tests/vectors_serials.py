@@ -9,7 +9,7 @@ from vectors_green import DESTROYED, FRESH_L, PLAIN, driver_in, held, objects_in
 from vectors_locks import FULL, SHORT_LOCKS
 from vectors_records import SHORT
 from vectors_rings import changed, inside
-from vectors_wide import NO_CASE, data, wide_size
+from vectors_wide import data, wide_size
 from vectors_write import SMALLEST, done, memory_of, noisy, refused, short
 
 LARGE, ONCE_TOO_LARGE = 70_000, 65_536
@@ -240,10 +240,9 @@ def written_orders():
 
 
 def written_ends():
-    """A configuration in memory of as many bytes as there may be, and of one more, which is no case."""
+    """A configuration in memory of as many bytes as there may be."""
     noise = marks(SERIAL_EDITION, [7, LARGE, 1, 9]) + noisy(memory_of(TWO, WIDE), lambda at: 255 - at % 3, WIDE)
     yield "write: serials 70,000 and 1, and noise where nothing is named", ROOM, noise, done(17)
-    yield "write: a byte more than a configuration has", ROOM, noise + b"\1", NO_CASE
 
 
 def writes(line_l):
