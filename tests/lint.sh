@@ -136,19 +136,22 @@ sys.exit(faults > 0 or not sys.argv[1:])
     echo "lint: the sizes of ${#written[@]} files"
 }
 
-# The largest number of objects and the small room stand once in the model and once in its code. Whatever else named one
-# of them, the number after it or a length that follows from it would stay behind when they change. (Examples are free.)
+# The largest number of objects, the small room and the largest number stand once in the model and once in its code.
+# Whatever else named one of them, the number after it or a length that follows from it would stay behind when they
+# change. (Examples are free.)
 lint_limits() {
-    local stated found numbers='96|97|192|193|1[_,]?7(28|44)|3[_,]?3(60|76)|0x(60|61|[cC]0|[cC]1)'
+    local stated found numbers='96|97|192|193|1[_,]?7(28|44)|3[_,]?3(60|76)|2[_,]?097[_,]?15[12]|0x(60|61|[cC]0|[cC]1)'
     stated="crates/model/specs/Config.antt:mostObjects = 192
 crates/model/specs/Config.antt:smallRoom = 96
+crates/model/specs/Number.antt:mostNumber = 2097151
 crates/model/src/lib.rt:pub const MOST_OBJECTS: u8 = 192;
+crates/model/src/lib.rt:pub const MOST_SERIAL: u32 = 2097151;
 crates/model/src/lib.rt:pub const SMALL_ROOM: u8 = 96;"
     found=$(grep -rE "(^|[^0-9A-Za-z_])($numbers)(_?[ui](8|16|32|64|size))?([^0-9A-Za-z_]|\$)" crates/*/src \
-        crates/*/specs crates/*/proofs | grep -vE '^crates/model/specs/(Lock)?Examples\.antt:' | sort) || true
+        crates/*/specs crates/*/proofs | grep -vE '^crates/model/specs/(Lock|Serial)?Examples\.antt:' | sort) || true
     diff <(echo "$stated") <(echo "$found") ||
         { echo "lint: a limit is named elsewhere than where it is defined, or is not defined" >&2; exit 1; }
-    echo "lint: each limit of request N2 is named once in the model and once in its code"
+    echo "lint: each limit of requests N2 and N7 is named once in the model and once in its code"
 }
 
 lint_c
