@@ -54,7 +54,7 @@ fn wide_field(s: &[u8], at: usize) -> Wide
 }
 
 // The same in a file of an edition that has serials; in an older one the serial is 0, and takes no byte.
-fn read_serial(s: &[u8], edition: u8, at: usize) -> Wide
+fn read_serial(s: &[u8], edition: u32, at: usize) -> Wide
     ensures { λ r. ⌜ asField r ≡ serialAt (now (s .entry)) edition at ⌝ }
 {
     if edition < SERIAL_EDITION {

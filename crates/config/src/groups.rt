@@ -2,10 +2,11 @@
 // the next place, or the question that ends the reading.
 ghost use mathlib.Core.Path.{_≡_};
 ghost use Prim.Native.Nat.{_≤_};
-ghost use Rattle.model.specs.declared.Head.the-variants.{Stopped};
+ghost use mathlib.Core.List.{[], _∷_};
+ghost use Rattle.model.specs.declared.Head.the-variants.{Counted, Stopped};
 ghost use Rattle.model.specs.declared.Reading.the-variants.{Refused};
 ghost use Rattle.model.specs.Config.{mostObjects};
-ghost use Rattle.model.specs.ConfigFile.{fieldQuestion, countsAt, ownerLeast, ownerMost, object, turns};
+ghost use Rattle.model.specs.ConfigFile.{fieldQuestion, countsOf, countsAt, ownerLeast, ownerMost, object, turns};
 ghost use Rattle.sound.specs.Columns.{objectsOf, Within};
 ghost use Rattle.config.specs.Readings.{progress};
 ghost use Rattle.config.specs.Quick.{isOwner, isObject, countsFit};
@@ -40,6 +41,22 @@ pub(crate) fn refused(f: Field) -> Reading
     Reading::Refused(field_question(f))
 }
 
+// Edition and counts that were read, with the place after them.
+fn counted(edition: u8, drivers: u8, devices: u8, objects: u8, values: u8, next: usize) -> Head
+    ensures { λ r. ⌜ r ≡ Counted (countsOf (edition ∷ drivers ∷ devices ∷ objects ∷ values ∷ [])) next ⌝ }
+{
+    Head::Counted(
+        Counts {
+            drivers: drivers,
+            devices: devices,
+            objects: objects,
+            values: values,
+            edition: edition as u32,
+        },
+        next,
+    )
+}
+
 // Edition, drivers, devices, objects, values, field by field.
 fn counts_by_fields(s: &[u8]) -> Head
     ensures { λ r. ⌜ r ≡ countsAt (now (s .entry)) ⌝ }
@@ -64,16 +81,7 @@ fn counts_by_fields(s: &[u8]) -> Head
     let Field::Value(values, next) = k else {
         return stopped(k);
     };
-    Head::Counted(
-        Counts {
-            edition: edition,
-            drivers: drivers,
-            devices: devices,
-            objects: objects,
-            values: values,
-        },
-        next,
-    )
+    counted(edition, drivers, devices, objects, values, next)
 }
 
 // The bytes of the edition and the counts are numbers in their ranges.
@@ -100,16 +108,7 @@ pub(crate) fn read_counts(s: &[u8]) -> Head
         let objects = s[3];
         let values = s[4];
         if counts_fit(edition, drivers, devices, objects, values) {
-            return Head::Counted(
-                Counts {
-                    edition: edition,
-                    drivers: drivers,
-                    devices: devices,
-                    objects: objects,
-                    values: values,
-                },
-                5,
-            );
+            return counted(edition, drivers, devices, objects, values, 5);
         }
     }
     counts_by_fields(s)

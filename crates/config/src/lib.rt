@@ -28,11 +28,11 @@ fn blank_config() -> Config
     ensures { λ r. ⌜ r ≡ blank ⌝ }
 {
     let n = Counts {
-        edition: 0,
         drivers: 0,
         devices: 0,
         objects: 0,
         values: 0,
+        edition: 0,
     };
     let o = Objects {
         kind: [0u8; OBJECT_SLOTS],

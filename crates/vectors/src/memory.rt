@@ -145,11 +145,11 @@ fn judge_memory(
     requires { ⌜ n < 65536 ⌝ }
 {
     let counts = Counts {
-        edition: edition,
         drivers: byte_at(memory, 0),
         devices: byte_at(memory, 1),
         objects: byte_at(memory, 2),
         values: byte_at(memory, 3),
+        edition: edition as u32,
     };
     let config = filled(counts, serial, slots, after(memory, COUNT_BYTES));
     let mut area = [OLD_BYTE; MOST_AREA];

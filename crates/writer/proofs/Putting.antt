@@ -11,7 +11,7 @@ use lib.Dec.{leb}
 use borrow.Author.Tests.{le-leb, lt-leb, leb-true}
 use Rattle.model.specs.Number.{mostBytes, bytesOf}
 use Rattle.model.specs.Base.{all}
-use Rattle.model.specs.Config.{mostEntries, serialEdition, mostSerial, entryPlace, hardcodedOf, serialOf}
+use Rattle.model.specs.Config.{mostEntries, mostEdition, serialEdition, mostSerial, entryPlace, hardcodedOf, serialOf}
 use Rattle.model.specs.ConfigFile.{done, field, absent, countsRow}
 use Rattle.model.specs.ConfigWrite.{
   rowsFrom,
@@ -33,6 +33,7 @@ use Rattle.model.specs.declared.Counts.{Counts}
 use Rattle.model.specs.declared.Config.{Config}
 use Rattle.model.proofs.Copied.{rows-more, rows-same}
 use Rattle.model.proofs.FileLength.{bytes-most, from-most, rows-bytes}
+use Rattle.model.proofs.Rows.{row-head}
 use Rattle.model.proofs.FileRead.{FewCounts}
 use Rattle.model.proofs.FileWritten.{few-entries, ranges-asked}
 use Rattle.model.proofs.Lists.{and-r, every-at}
@@ -260,6 +261,9 @@ module _ (config : Config) where
 
     pub entries-few : (v : ℕ) → 1 ≤ v → v ≤ config .counts .values → getD (config .values .count) v 0 ≤ mostEntries
     entries-few = few-entries config (ranges-asked config h)
+
+    pub edition-few : config .counts .edition ≤ mostEdition
+    edition-few = row-head 1 mostEdition _ (config .counts .edition) _ (ranges-asked config h .counts) .1
 
     pub serials-few : (c : ℕ) → 1 ≤ c → c ≤ config .counts .devices → serialEdition ≤ config .counts .edition
         → serialOf config c ≤ mostSerial

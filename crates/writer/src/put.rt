@@ -5,7 +5,8 @@ ghost use mathlib.Core.Bool.{true};
 ghost use Prim.Native.Nat.{ℕ, _+_, _*_, _≤_};
 ghost use lib.ListN.{getD};
 ghost use Rattle.model.specs.Number.{mostNumber, mostBytes, bytesOf};
-ghost use Rattle.model.specs.Config.{mostDevices, mostObjects, mostValues, mostEntries, serialEdition, mostSerial};
+ghost use Rattle.model.specs.Config.{mostDevices, mostObjects, mostValues, mostEntries};
+ghost use Rattle.model.specs.Config.{mostEdition, serialEdition, mostSerial};
 ghost use Rattle.model.specs.ConfigFile.{countsRow};
 ghost use Rattle.model.specs.ConfigWrite.{countsNumbers, rowsFrom, rowBytes};
 ghost use Rattle.model.specs.ConfigWrite.{inRanges, fileOf};
@@ -46,11 +47,12 @@ fn put_three(out: &mut [u8], at: usize, a: u8, b: u8, c: u8) -> usize
 
 // Edition and counts, at the start.
 fn put_counts(out: &mut [u8], counts: Counts) -> usize
+    requires { ⌜ counts .edition ≤ mostEdition ⌝ }
     ensures { λ r.
         ⌜ Placed (rowBytes countsRow (countsNumbers counts)) 0 (now (out .entry)) r (now (out .exit)) ⌝ }
     ensures { λ r. ⌜ r ≤ 5 * mostBytes ⌝ }
 {
-    let p = put_three(out, 0, counts.edition, counts.drivers, counts.devices);
+    let p = put_three(out, 0, counts.edition as u8, counts.drivers, counts.devices);
     let q = put_number(out, p, counts.objects);
     put_number(out, q, counts.values)
 }
@@ -82,7 +84,7 @@ fn put_objects<'a>(
 }
 
 // A device: its hardcoded value number and, in an edition that has serials, its serial.
-fn put_device(out: &mut [u8], at: usize, edition: u8, hardcoded: u8, serial: u32) -> usize
+fn put_device(out: &mut [u8], at: usize, edition: u32, hardcoded: u8, serial: u32) -> usize
     requires { ⌜ at + anyFileBytes ≤ mostNumber ⌝ }
     requires { ⌜ (serialEdition ≤ edition → serial ≤ mostSerial) ⌝ }
     ensures { λ r. ⌜ Placed (withSerial edition hardcoded serial) at (now (out .entry)) r (now (out .exit)) ⌝ }
@@ -99,7 +101,7 @@ fn put_device(out: &mut [u8], at: usize, edition: u8, hardcoded: u8, serial: u32
 fn put_devices<'a>(
     out: &mut [u8],
     at: usize,
-    edition: u8,
+    edition: u32,
     n: u8,
     hardcoded: &'a [u8; DEVICE_SLOTS],
     serial: &'a [u32; DEVICE_SLOTS],

@@ -28,12 +28,15 @@ use model::SERIAL_EDITION;
 use model::VALUE_SLOTS;
 use model::entry_place;
 
+// The latest edition, as the counts have it.
+const LATEST: u32 = MOST_EDITION as u32;
+
 // The edition and the counts.
 fn counts_right(counts: Counts) -> bool
     ensures { λ r. ⌜ r ≡ inRow countsRow (countsNumbers counts) ⌝ }
 {
     (1 <= counts.edition)
-        & (counts.edition <= MOST_EDITION)
+        & (counts.edition <= LATEST)
         & (counts.drivers <= MOST_DRIVERS)
         & (counts.devices <= MOST_DEVICES)
         & (counts.objects <= MOST_OBJECTS)
@@ -64,7 +67,7 @@ fn objects_right<'a>(
 }
 
 // The largest serial of an edition; in one that has no serials, each is 0.
-fn most_serial(edition: u8) -> u32
+fn most_serial(edition: u32) -> u32
     ensures { λ r. ⌜ r ≡ serialMost edition ⌝ }
 {
     if edition < SERIAL_EDITION {

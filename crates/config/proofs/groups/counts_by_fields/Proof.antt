@@ -129,26 +129,30 @@ returns-5 c =
     (Readers.on-stop _ _ _ (c .before .before .before .read-field5 .ensures) (c .before .enum-told5 .given .1)
     (rw (c .stopped5 .ensures))))))
 
+counted-requires : tie.Need-counted-requires
+counted-requires c κs = search needs
+
 returns-6 : tie.Need-returns-6
 unfolding countsTo
 returns-6 c =
+    let k = c .before in
     Readers.on-go _ _ _
-    (c .before .before .before .before .before .before .before .before .before .before .before .before .before .before
+    (k .before .before .before .before .before .before .before .before .before .before .before .before .before .before
     .before .before .before .before .before .read-field .ensures)
-    (c .before .before .before .before .before .before .before .before .before .before .before .before .before .before
+    (k .before .before .before .before .before .before .before .before .before .before .before .before .before .before
     .before .before .before .f .given .1)
     (Readers.on-go _ _ _
-    (c .before .before .before .before .before .before .before .before .before .before .before .before .before .before
+    (k .before .before .before .before .before .before .before .before .before .before .before .before .before .before
     .before .read-field2 .ensures)
-    (c .before .before .before .before .before .before .before .before .before .before .before .before .before .g
+    (k .before .before .before .before .before .before .before .before .before .before .before .before .before .g
     .given .1)
     (Readers.on-go _ _ _
-    (c .before .before .before .before .before .before .before .before .before .before .before .read-field3 .ensures)
-    (c .before .before .before .before .before .before .before .before .before .h .given .1)
-    (Readers.on-go _ _ _ (c .before .before .before .before .before .before .before .read-field4 .ensures)
-    (c .before .before .before .before .before .j .given .1)
-    (Readers.on-go _ _ _ (c .before .before .before .read-field5 .ensures) (c .before .k .given .1)
-    (refl)))))
+    (k .before .before .before .before .before .before .before .before .before .before .before .read-field3 .ensures)
+    (k .before .before .before .before .before .before .before .before .before .h .given .1)
+    (Readers.on-go _ _ _ (k .before .before .before .before .before .before .before .read-field4 .ensures)
+    (k .before .before .before .before .before .j .given .1)
+    (Readers.on-go _ _ _ (k .before .before .before .read-field5 .ensures) (k .before .k .given .1)
+    (c .counted .ensures)))))
 
 pub counts-by-fields-spec : {M : Type 1} → statement M
 counts-by-fields-spec =
@@ -179,4 +183,5 @@ counts-by-fields-spec =
     enum-told-5
     stopped-requires-5
     returns-5
+    counted-requires
     returns-6)

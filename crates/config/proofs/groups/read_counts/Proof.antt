@@ -24,11 +24,15 @@ shared-slice-read-values c = search needs
 counts-fit-requires : tie.Need-counts-fit-requires
 counts-fit-requires c κs = search needs
 
+counted-requires : tie.Need-counted-requires
+counted-requires c κs = search needs
+
 returns : tie.Need-returns
 returns c =
-    Quick.counts-quick _ _ _ _ _ _ (c .before .before .before .before .before .before .before .if1 .taken)
+    c .counted .ensures
+    ∙ Quick.counts-quick _ _ _ _ _ _ (c .before .before .before .before .before .before .before .before .if1 .taken)
     refl refl refl refl refl
-    (sym (c .before .counts-fit .ensures) ∙ c .if2 .taken)
+    (sym (c .before .before .counts-fit .ensures) ∙ c .before .if2 .taken)
 
 counts-by-fields-requires : tie.Need-counts-by-fields-requires
 counts-by-fields-requires c κs = search needs
@@ -46,6 +50,7 @@ read-counts-spec =
     shared-slice-read-objects
     shared-slice-read-values
     counts-fit-requires
+    counted-requires
     returns
     counts-by-fields-requires
     returns-2)

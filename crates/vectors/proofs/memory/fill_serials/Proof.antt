@@ -1,5 +1,5 @@
--- `vectors::memory::fill_serials` is safe: the place is four times the number of serials that were filled, and there are
--- seventeen. Assumes nothing.
+-- `vectors::memory::fill_serials` is safe: the place is four times the number of serials that were filled, of which
+-- there are seventeen. Assumes nothing.
 use borrow.Author.Needs.{needs}
 use Prim.Native.Nat.{suc, _≤_, _*_, _-_}
 use mathlib.Core.Path.{_≡_}

@@ -4,6 +4,9 @@ use borrow.Author.Needs.{needs}
 use Rattle.writer.proofs.put.put_counts.Statement.{statement}
 use Rattle.writer.proofs.put.put_counts.Tie as tie
 
+cast-put-three : tie.Need-cast-put-three
+cast-put-three c = search needs
+
 put-three-requires : tie.Need-put-three-requires
 put-three-requires c κs = search needs
 
@@ -22,4 +25,4 @@ returns c = (search Putting.counts-placed, search needs)
 pub put-counts-spec : {M : Type 1} → statement M
 put-counts-spec =
     tie.close
-    (tie.spec put-three-requires put-number-requires put-number-requires-2 same-length returns)
+    (tie.spec cast-put-three put-three-requires put-number-requires put-number-requires-2 same-length returns)

@@ -6,7 +6,7 @@ use Rattle.writer.proofs.put.put_file.Statement.{statement}
 use Rattle.writer.proofs.put.put_file.Tie as tie
 
 put-counts-requires : tie.Need-put-counts-requires
-put-counts-requires c κs = search needs
+put-counts-requires c κs = Putting.edition-few _ (c .before .before .before .pre)
 
 put-objects-requires : tie.Need-put-objects-requires
 put-objects-requires c κs =
