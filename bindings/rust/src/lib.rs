@@ -69,8 +69,8 @@ unsafe extern "C" {
     fn gate_rewrite(line: *const u8, line_len: usize, out: *mut u8, out_len: usize) -> u64;
 }
 
-/// Puts questions 1 to 6 to a line file. One of edition 2 has a serial for each card, which is put questions 1 to 3 like
-/// any number of it; beyond that no answer and no state depends on edition or serials.
+/// Puts questions 1 to 6 to a line file. One of edition 2 has a serial for each card, which is put questions 1 to 3
+/// like any number of it; beyond that no answer and no state depends on edition or serials.
 pub fn load_check(line: &[u8]) -> Result<(), Refusal> {
     // SAFETY: the pointer comes from a slice: it is valid for the slice's length, and not null even if that is 0. The
     // library only reads it.
@@ -161,8 +161,8 @@ pub fn first_bad(line: &[u8], state: &[u8]) -> Result<Option<usize>, Refusal> {
 
 /// Loads a line file and writes the line that was loaded into `out`, in its own edition and with the cards' serials; an
 /// accepted file comes out byte for byte. Returns its length: so many bytes at the start of `out` are the file, and the
-/// rest of `out` is as it was. If the file is refused or `out` is too short, `out` is as it was. An empty `out` asks for
-/// the length.
+/// rest of `out` is as it was. If the file is refused or `out` is too short, `out` is as it was. An empty `out` asks
+/// for the length.
 ///
 /// ```
 /// use sorter_gate::{LONGEST_LINE, RewriteError, rewrite};
