@@ -6,6 +6,7 @@ mod common;
 use common::{Desk, file_l, l_with_serials, sequence_p};
 use reference::config::{RULES_BEFORE, load_by};
 use reference::generate::records::record;
+use reference::generate::serial_corners::BAD_FORMS;
 use reference::generate::serials::{SERIALS, label};
 use reference::generate::{Calls, Function, Rng, Size, Want, labelled};
 use reference::limits::MAX_NUMBER_BEFORE;
@@ -16,15 +17,6 @@ use reference::{Memory, Written, load, load_check, report, rewriting, write};
 
 /// Numbers from 65,536 on.
 const LARGE: [usize; 4] = [65_536, 65_537, 70_000, 2_097_151];
-/// Forms that question 2 refuses, whatever the number is: three bytes whose last is 0, and four bytes.
-const BAD_FORMS: [&[u8]; 6] = [
-    &[128, 128, 0],
-    &[255, 255, 0],
-    &[128, 128, 128, 1],
-    &[129, 128, 128, 0],
-    &[255, 255, 255, 127],
-    &[128, 128, 128, 128, 4],
-];
 /// An area that every file fits into.
 const ROOM: usize = 1_900;
 

@@ -88,8 +88,8 @@ fn cuts() -> Vec<Folder> {
     files.into_iter().flat_map(cut).collect()
 }
 
-/// Numbers in a form that question 2 refuses: three bytes whose last is 0, and four.
-const BAD_FORMS: [&[u8]; 6] = [
+/// Forms that question 2 refuses, whatever the number is: three bytes whose last is 0, four bytes, and more.
+pub const BAD_FORMS: [&[u8]; 6] = [
     &[128, 128, 0],
     &[255, 255, 0],
     &[128, 128, 128, 1],
