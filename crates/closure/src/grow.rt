@@ -16,7 +16,7 @@ use scene::rules::ENTRY_ROOM;
 use scene::{rules, words};
 
 // The values with something to do; and the devices, none or some, that may not name the object of an entry.
-#[derive(Drop)]
+#[derive(Clone, Copy)]
 pub struct Turn {
     pub todo: u64,
     pub strange: u64,

@@ -11,7 +11,7 @@ use scene::rules::ENTRY_ROOM;
 use scene::words;
 
 // An entry: its device, its descriptor, its value, and its number in the value, from 1; or nothing.
-#[derive(Drop)]
+#[derive(Clone, Copy)]
 pub enum Finding {
     Found(usize, usize, usize, usize),
     Nothing,

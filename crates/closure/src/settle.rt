@@ -10,7 +10,7 @@ use model::{Counts, ENTRY_SLOTS, OBJECT_SLOTS, VALUE_SLOTS};
 use scene::words;
 
 // Where it ended: devices, and a value with an entry whose object these may not name; or none.
-#[derive(Drop)]
+#[derive(Clone, Copy)]
 pub struct Stop {
     pub strange: u64,
     pub value: usize,

@@ -12,7 +12,7 @@ use crate::groups::refused;
 use model::{Counts, DEVICE_SLOTS, Field, MOST_SERIAL, Num, Reading, SERIAL_EDITION};
 
 // A number that is wider than a byte, with the place after it; or the question, 1 to 3, that it answers with no.
-#[derive(Drop)]
+#[derive(Clone, Copy)]
 enum Wide {
     Large(u32, usize),
     Not(u8),

@@ -1,5 +1,8 @@
 // The configuration file (document 01: line file) into the configuration, or the first refusal among questions 1 to 6.
 // Columns are local arrays, lent to the readers; the struct is made once, at the end.
+
+#![tactic(auto)]
+
 mod devices;
 mod fields;
 pub mod groups;

@@ -1,4 +1,7 @@
 // What an accepted operation does to the state area and to the answer area.
+
+#![tactic(auto)]
+
 mod moves;
 pub mod owners;
 mod transfers;

@@ -1,4 +1,7 @@
 // What the programs share: a file's bytes by its name.
+
+#![tactic(auto)]
+
 ghost use Rattle.io.specs.Counts.{IsPrefixLen};
 
 // The bytes of a file at the start of buf, and how many there are. A file that is absent or cannot be read counts as

@@ -1,4 +1,7 @@
 // What a C host calls: numbers and byte areas in, a number out.
+
+#![tactic(auto)]
+
 mod call;
 mod zones;
 

@@ -219,6 +219,7 @@ no_rings file area h quiet calls = go [] calls
     fresh-area = (make_fresh file area).1
 
     go : (before calls : List Call) → Memᴰ 21 (answers_of file (area_after file fresh-area before) calls) → ⊥
+    go before [] x' = elim x' [ ]
     go before (c ∷ cs) (Memᴰ.head e) =
         never_21 file area h before c.bytes c.answer (λ k. quiet (operation_in c.bytes).subject) (sym e)
     go before (c ∷ cs) (Memᴰ.tail m) =

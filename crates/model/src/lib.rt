@@ -1,5 +1,7 @@
 // The types that the definitions of document 01 and the code share. What they mean stands in specs/.
 
+#![tactic(auto)]
+
 ghost use Rattle.std.specs.Prelude.{◌≡◌, ◌<◌, get_or};
 ghost use Rattle.model.specs.Config.{entry_place};
 
@@ -75,7 +77,7 @@ pub const CONTENT_BYTES: usize = 16;
 pub const GREEN_CODE: usize = 13;
 
 // Why the bytes at a place are no number.
-#[derive(Drop)]
+#[derive(Clone, Copy)]
 pub enum Fault {
     // No last byte.
     Cut,
@@ -84,7 +86,7 @@ pub enum Fault {
 }
 
 // The number at a place, with the place after it.
-#[derive(Drop)]
+#[derive(Clone, Copy)]
 pub enum Num {
     Got(usize, usize),
     Bad(Fault),
@@ -92,14 +94,14 @@ pub enum Num {
 
 // A number of the configuration file in its field's range, with the place after it; or the question, 1 to 3, that it
 // answers with no.
-#[derive(Drop)]
+#[derive(Clone, Copy)]
 pub enum Field {
     Value(u8, usize),
     No(u8),
 }
 
 // How far the file is read: up to a place; or the question that ended it.
-#[derive(Drop)]
+#[derive(Clone, Copy)]
 pub enum Reading {
     At(usize),
     Refused(u8),
@@ -107,7 +109,7 @@ pub enum Reading {
 
 // How many of each there are, and the edition of the file. This is handed on in every search, and so is two words of 32
 // bits: with five bytes a dense search took 9 % more.
-#[derive(Drop)]
+#[derive(Clone, Copy)]
 pub struct Counts {
     pub drivers: u8,
     pub devices: u8,
@@ -117,14 +119,14 @@ pub struct Counts {
 }
 
 // The counts, with the place after them; or the question that ended the reading.
-#[derive(Drop)]
+#[derive(Clone, Copy)]
 pub enum Head {
     Counted(Counts, usize),
     Stopped(u8),
 }
 
 // Columns by the number of the object, device or value; place 0 names none.
-#[derive(Drop)]
+#[derive(Clone, Copy)]
 pub struct Objects {
     pub kind: [u8; OBJECT_SLOTS],
     pub class: [u8; OBJECT_SLOTS],
@@ -132,20 +134,20 @@ pub struct Objects {
 }
 
 // The value of a device's hardcoded descriptor, and its serial, 0 where none is known.
-#[derive(Drop)]
+#[derive(Clone, Copy)]
 pub struct Devices {
     pub hardcoded: [u8; DEVICE_SLOTS],
     pub serial: [u32; DEVICE_SLOTS],
 }
 
-#[derive(Drop)]
+#[derive(Clone, Copy)]
 pub struct Values {
     pub count: [u8; VALUE_SLOTS],
     pub entries: [u8; ENTRY_SLOTS],
 }
 
 // What a configuration file tells (document 01: line).
-#[derive(Drop)]
+#[derive(Clone, Copy)]
 pub struct Config {
     pub counts: Counts,
     pub objects: Objects,
@@ -154,7 +156,7 @@ pub struct Config {
 }
 
 // 0 and the configuration; or the first question that is answered with no, beside a blank configuration.
-#[derive(Drop)]
+#[derive(Clone, Copy)]
 pub struct Loaded {
     pub answer: u8,
     pub config: Config,
@@ -162,7 +164,7 @@ pub struct Loaded {
 
 // An answer that has a kind. Of a configuration that was to be written: the length of its file; the question that it
 // answers with no; or the length that the area would need. Other calls tell another number in place of the first.
-#[derive(Drop)]
+#[derive(Clone, Copy)]
 pub enum Written {
     Length(usize),
     Refused(u8),
@@ -171,7 +173,7 @@ pub enum Written {
 
 // An operation taken apart (document 01: operation record). Item i, from 0, has its object, its second number (a value
 // or a destination), its form, and its sixteen bytes of raw from place 16 * i.
-#[derive(Drop)]
+#[derive(Clone, Copy)]
 pub struct Operation {
     pub code: usize,
     pub subject: usize,
@@ -184,7 +186,7 @@ pub struct Operation {
 }
 
 // What a code does.
-#[derive(Drop)]
+#[derive(Clone, Copy)]
 pub enum Family {
     Write,
     Copy,
@@ -197,7 +199,7 @@ pub enum Family {
 }
 
 // To whom a code does it, or by whom (document 01: driver, card, external objects).
-#[derive(Drop)]
+#[derive(Clone, Copy)]
 pub enum Actor {
     Driver,
     Device,
@@ -205,7 +207,7 @@ pub enum Actor {
 }
 
 // An operation read up to a place: 0 and the operation so far, or 10.
-#[derive(Drop)]
+#[derive(Clone, Copy)]
 pub struct Parse {
     pub answer: u8,
     pub at: usize,

@@ -1,5 +1,8 @@
 // The office program: reads `line.bin` and `session.bin` in the folder that it is run in, and writes what the library
 // makes of them. A file that is absent or cannot be read counts as empty.
+
+#![tactic(auto)]
+
 use files::read_file;
 use libc::STDOUT_FILENO;
 use report::{MOST_FILE, MOST_SESSION, MOST_TEXT, report_whole};

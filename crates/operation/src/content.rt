@@ -6,7 +6,7 @@ ghost use Rattle.operation.specs.Raw.{content_at};
 use model::CONTENT_BYTES;
 
 // An object's contents in an operation: whether all sixteen bytes are there, and the bytes; zeros where they are not.
-#[derive(Drop)]
+#[derive(Clone, Copy)]
 pub struct Content {
     pub whole: bool,
     pub bytes: [u8; CONTENT_BYTES],

@@ -11,7 +11,7 @@ use crate::fields::{number_at, raw_at};
 use model::{CONTENT_BYTES, MOST_ITEMS, Num, Operation, Parse};
 
 // What an operation has a count of: items of a write, pairs of a read, objects of a list.
-#[derive(Drop)]
+#[derive(Clone, Copy)]
 pub enum Element {
     Item,
     Pair,

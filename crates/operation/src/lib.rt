@@ -1,4 +1,7 @@
 // Operations taken apart (document 01: operation record; question 10). The definitions are `model`'s `Operation`.
+
+#![tactic(auto)]
+
 pub mod codes;
 pub mod columns;
 mod content;
@@ -15,7 +18,7 @@ use crate::items::unread;
 use model::{Num, Operation};
 
 // 0 and the operation; or 10, beside an operation without anything.
-#[derive(Drop)]
+#[derive(Clone, Copy)]
 pub struct Parsed {
     pub answer: u8,
     pub operation: Operation,

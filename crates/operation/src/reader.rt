@@ -9,7 +9,7 @@ ghost use Rattle.operation.specs.Reader.{reader_at};
 use crate::content::{Content, content_at};
 use model::Num;
 
-#[derive(Drop)]
+#[derive(Clone, Copy)]
 pub struct Reader<'a> {
     pub src: &'a [u8],
     pub at: usize,

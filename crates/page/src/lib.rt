@@ -1,4 +1,7 @@
 // Bytes and text put down in an area that is lent, as far as there is room.
+
+#![tactic(auto)]
+
 ghost use Rattle.std.specs.Prelude.{◌≡◌, [], ◌∷◌, ◌%◌};
 ghost use Rattle.model.specs.Office.{digit, decimal, long_row, line_row};
 ghost use Rattle.page.specs.Page.{laid, Put};

@@ -1,5 +1,8 @@
 // Questions 11 to 17 and 23 of an operation, over a configuration and a state area. `room` is how many object records
 // the area has.
+
+#![tactic(auto)]
+
 mod lookups;
 mod names;
 mod places;

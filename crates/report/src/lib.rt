@@ -1,4 +1,7 @@
 // The office program's text, worked out over slices: a configuration file and a session in, rows out.
+
+#![tactic(auto)]
+
 pub mod rewriting;
 mod rows;
 

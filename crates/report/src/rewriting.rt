@@ -11,7 +11,7 @@ use page::{put_line, put_long};
 pub const MOST_WORD: usize = 7;
 
 // How many bytes of text there are to print, and how many of a file to write.
-#[derive(Drop)]
+#[derive(Clone, Copy)]
 pub struct Rewriting {
     pub text: usize,
     pub file: usize,

@@ -1,5 +1,8 @@
 // The rewriting program (request N1): reads `line.bin` in the folder that it is run in, and writes it as `line.out`, or
 // prints why not. A file that is absent or cannot be read counts as empty.
+
+#![tactic(auto)]
+
 use files::read_file;
 use libc::STDOUT_FILENO;
 use report::MOST_FILE;

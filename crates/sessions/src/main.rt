@@ -1,6 +1,9 @@
 // Judges the stored sessions on standard input as the office program does, and writes its text for each, with a row `.`
 // behind it. A session stands after its lengths: the line's and its own, two bytes each, lower byte first, then the
 // line's bytes and its own. The expected text is the second implementation's.
+
+#![tactic(auto)]
+
 ghost use Rattle.std.specs.Prelude.{◌≡◌, ◌+◌, ◌*◌, ◌<◌};
 
 use libc::{STDIN_FILENO, STDOUT_FILENO};

@@ -1,4 +1,7 @@
 // Questions 5 and 6 over the columns of a configuration.
+
+#![tactic(auto)]
+
 ghost use Rattle.std.specs.Prelude.{◌≡◌, not, ◌||◌, suc, ◌+◌, ◌*◌, ◌≤◌, eqb, length, get_or, replicate};
 ghost use Rattle.model.specs.Config.{most_devices, most_objects, entry_bytes, entry_at};
 ghost use Rattle.sound.specs.Columns.{Within};

@@ -209,6 +209,7 @@ no_rings_on source fits area h quiet calls = go [] calls
     fresh-area = (fresh_on source area).1
 
     go : (before calls : List Call) → Memᴰ 21 (answers_of source (area_after source fresh-area before) calls) → ⊥
+    go before [] x' = elim x' [ ]
     go before (c ∷ cs) (Memᴰ.head e) =
         never_21_on source fits area h before c.bytes c.answer
         (λ k. quiet (operation_in c.bytes).subject) (sym e)

@@ -250,11 +250,11 @@ module _ (config : Config) (room : ℕ) where
   after-value s t v n true w e = after-content room s t n v w e
   after-value s t v n false w e = ap (view room) e ∙ view-layout room (view room s) (view_shape room s)
 
-  pub fresh_on_lem : (present i : ℕ) (s t : List ℕ) → view room s ≡ fresh_to config room i → i < present
+  pub fresh_on : (present i : ℕ) (s t : List ℕ) → view room s ≡ fresh_to config room i → i < present
       → Lesser config.counts.objects room present → t ≡ layout (valued config (i + 1) (view room s))
       → view room t ≡ fresh_to config room (i + 1)
   unfolding valued
-  fresh_on_lem present i s t inv l p e =
+  fresh_on present i s t inv l p e =
       after-value s t (value (i + 1)) (i + 1) (is_hardcoded (i + 1)) refl e
       ∙ rw (inv, add-one i) (fresh-state i (is_hardcoded (suc i)) (value (suc i)) (omega (arith, p.second)) refl)
 

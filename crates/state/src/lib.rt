@@ -1,5 +1,8 @@
 // The state area: lookups, contents of sixteen bytes, changes, a fresh state, and question 9. The area is lent as a
 // slice; `room` is how many object records it has.
+
+#![tactic(auto)]
+
 pub mod bytes;
 pub mod change;
 pub mod formed;

@@ -1,4 +1,7 @@
 // Numbers (document 01, 'Line file'; questions 1 and 2): canonical LEB128 in at most three bytes, read and written.
+
+#![tactic(auto)]
+
 ghost use Rattle.std.specs.Prelude.{◌≡◌, ◌+◌, ◌<◌, ◌≤◌, length, drop};
 ghost use Rattle.model.specs.Number.{most_number, most_bytes, lead, value_of, number_at, bytes_of};
 ghost use Rattle.model.specs.NumberMeans.{num_means, meant_at};

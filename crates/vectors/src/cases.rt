@@ -57,7 +57,7 @@ const PATCH_BYTES: usize = 3;
 // The code that creates a partition.
 const CREATE_CODE: u8 = 5;
 
-#[derive(Drop)]
+#[derive(Clone, Copy)]
 pub(crate) struct Row {
     pub answer: u64,
     pub left: u64,

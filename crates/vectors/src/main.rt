@@ -1,5 +1,8 @@
 // Judges the stored cases on standard input and writes a row for each: its place from 1, the answer, and a checksum of
 // what the call left (0 where it leaves nothing) or a second answer. tests/vectors.py says what a case is.
+
+#![tactic(auto)]
+
 mod cases;
 mod memory;
 

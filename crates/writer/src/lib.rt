@@ -1,5 +1,8 @@
 // The writer of configuration files (request N1): the questions that are put to a configuration before it is written,
 // its file in an area that is lent, and a file that is loaded and written again.
+
+#![tactic(auto)]
+
 mod put;
 mod ranges;
 

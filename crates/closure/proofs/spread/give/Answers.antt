@@ -1,0 +1,15 @@
+-- `closure::spread::give` meets its contract: the devices are in the word already, or it is set and marked. Assumes
+-- nothing.
+use native.Mathlib.Omega.{arith}
+use Rattle.closure.proofs.Giving.{gave_none, gave_one}
+use borrow.Author.Rules.{rules}
+use Rattle.closure.proofs.spread.give.Goals as goal
+
+pub returns-then-new-old : goal.returns-then-new-old
+returns-then-new-old c =
+    gave_none c.args.readers.now c.args.v c.args.r c.args.todo c.if-new-old.true
+
+pub returns : goal.returns
+returns c =
+    gave_one c.args.readers.now c.args.v c.args.r c.args.todo c.power.result
+    (omega (arith, c.requires.readers_len, c.requires.v_le_most_values)) c.power.ensures

@@ -1,0 +1,10 @@
+-- `described::offers::put` meets its contract: the digit is joined to the word. Assumes nothing.
+use native.Mathlib.Omega.{arith}
+use Rattle.described.proofs.Offering.{put_one}
+use borrow.Author.Rules.{rules}
+use Rattle.described.proofs.offers.put.Goals as goal
+
+pub returns : goal.returns
+returns c =
+    put_one c.args.table.now c.args.o c.args.k c.power.result (omega (arith, c.requires.table_len, c.requires.o_le_most_objects))
+    c.power.ensures

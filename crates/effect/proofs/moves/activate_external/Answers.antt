@@ -1,0 +1,7 @@
+-- `effect::moves::activate_external` meets its contract: the listed objects. Assumes nothing.
+use Rattle.effect.proofs.Moving.{activated_list}
+use borrow.Author.Rules.{rules}
+use Rattle.effect.proofs.moves.activate_external.Goals as goal
+
+pub returns : goal.returns
+returns c = search activated_list

@@ -1,0 +1,10 @@
+-- `green::rule::value_passes` meets its contract: value 0 has no entries. Assumes nothing.
+use Rattle.sound.proofs.Questions
+use borrow.Author.Rules.{rules}
+use Rattle.green.proofs.rule.value_passes.Goals as goal
+
+pub returns-then-v-eq0 : goal.returns-then-v-eq0
+returns-then-v-eq0 c = search Questions.passes_none
+
+pub returns : goal.returns
+returns c = search Questions.passes_some

@@ -1,0 +1,18 @@
+-- `green::staying::entries_spare` meets its contract: the entries from i on pass exactly if all do. Assumes nothing.
+use Prim.Native.Nat.{◌≤◌, ◌-◌, ◌+◌, ◌*◌}
+use mathlib.Core.Path.{◌≡◌, sym, ◌∙◌}
+use native.Mathlib.Omega.{arith}
+use borrow.Author.Tests.{not-true, not-false}
+use Rattle.model.specs.Config.{entry_bytes}
+use Rattle.sound.specs.Sound.{all_from}
+use Rattle.sound.proofs.Questions
+use Rattle.green.specs.Rule.{spared_by}
+use Rattle.green.proofs.staying.entries_spare.Given as goal
+
+abbrev pub invariant-loop-i : goal.invariant-loop-i
+invariant-loop-i l =
+    (l.i ≤ l.k) × (l.at ≡ l.from + entry_bytes * l.i)
+    × (all_from (spared_by l.table) l.entries l.at (l.k - l.i) ≡ all_from (spared_by l.table) l.entries l.from l.k)
+
+abbrev pub decreases-loop-i : goal.decreases-loop-i
+decreases-loop-i l = l.k - l.i

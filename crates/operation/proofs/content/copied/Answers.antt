@@ -1,0 +1,18 @@
+-- `operation::content::copied` meets its contract: after k turns k bytes are copied. Assumes nothing.
+use mathlib.Core.Path.{◌≡◌}
+use Prim.Native.Nat.{◌-◌, ◌≤◌}
+use lib.ListN.{length, take, drop}
+use lib.Seq.{sets}
+use Rattle.model.specs.State.{content_bytes}
+use Rattle.operation.proofs.Raw
+use borrow.Author.Rules.{rules}
+use Rattle.operation.proofs.content.copied.Goals as goal
+
+pub loop-k-init : goal.loop-k-init
+loop-k-init c = (search rules, (search rules, search rules))
+
+pub loop-k-preserved : goal.loop-k-preserved
+loop-k-preserved c = (search rules, (search rules, search Raw.copy_more))
+
+pub returns : goal.returns
+returns c = search Raw.copy_end

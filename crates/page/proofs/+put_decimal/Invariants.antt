@@ -1,0 +1,5 @@
+-- The measure of `page::put_decimal`: the number that is left.
+use Rattle.page.proofs.+put_decimal.Given as goal
+
+abbrev pub decreases-put_decimal : goal.decreases-put_decimal
+decreases-put_decimal l = l.n

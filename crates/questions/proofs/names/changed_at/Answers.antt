@@ -1,0 +1,16 @@
+-- `questions::names::changed_at` meets its contract: each arm of the match is the definition's. Assumes nothing.
+
+use borrow.Author.Rules.{rules}
+use Rattle.questions.proofs.names.changed_at.Goals as goal
+
+pub returns-in-Write : goal.returns-in-Write
+returns-in-Write c = rw c.in-Write.is c.number_of.ensures
+
+pub returns-in-Copy : goal.returns-in-Copy
+returns-in-Copy c = rw c.in-Copy.is c.number_of-in-Copy.ensures
+
+pub returns-in-Activate : goal.returns-in-Activate
+returns-in-Activate c = rw c.in-Activate.is c.number_of-in-Activate.ensures
+
+pub returns-in-Deactivate : goal.returns-in-Deactivate
+returns-in-Deactivate c = rw c.in-Deactivate.is c.number_of-in-Deactivate.ensures

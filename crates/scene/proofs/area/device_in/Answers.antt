@@ -1,0 +1,9 @@
+-- `scene::area::device_in` meets its contract: the byte read is the one that the view has. Assumes nothing.
+use mathlib.Core.Path.{sym}
+use Rattle.model.proofs.StateBytes.{device_byte}
+use borrow.Author.Rules.{rules}
+use Rattle.scene.proofs.area.device_in.Goals as goal
+
+pub returns : goal.returns
+returns c =
+    sym (device_byte c.args.room c.args.area.now c.args.c c.requires.fact.low c.requires.fact.high)

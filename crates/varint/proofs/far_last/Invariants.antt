@@ -1,0 +1,16 @@
+-- `varint::far_last` meets its contract. The invariant: the last byte's place counted from `i` is that counted from
+-- `at`. Assumes nothing.
+use Prim.Native.Nat.{◌+◌, ◌-◌}
+use mathlib.Core.Path.{◌≡◌}
+use native.Mathlib.Omega.{arith}
+use native.Mathlib.Numerals.{add-one}
+use lib.ListN.{length, drop}
+use Rattle.model.specs.Number.{lead}
+use Rattle.varint.proofs.Numbers.{lead-last, lead_more, lead_end}
+use Rattle.varint.proofs.far_last.Given as goal
+
+abbrev pub invariant-loop-i : goal.invariant-loop-i
+invariant-loop-i l = l.i + lead (drop l.i l.s) ≡ l.at + lead (drop l.at l.s)
+
+abbrev pub decreases-loop-i : goal.decreases-loop-i
+decreases-loop-i l = length l.s - l.i

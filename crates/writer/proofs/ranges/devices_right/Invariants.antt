@@ -1,0 +1,16 @@
+-- `writer::ranges::devices_right` meets its contract: devices 1 to i have passed. Assumes nothing.
+use Prim.Native.Nat.{◌≤◌, ◌-◌}
+use mathlib.Core.Bool.{true}
+use mathlib.Core.Path.{◌≡◌}
+use Rattle.sound.specs.Sound.{every_to}
+use Rattle.sound.proofs.Questions
+use Rattle.writer.specs.Tests.{device_right}
+use Rattle.writer.proofs.Testing
+use Rattle.writer.proofs.ranges.devices_right.Given as goal
+
+abbrev pub invariant-loop-i : goal.invariant-loop-i
+invariant-loop-i l =
+    (l.i ≤ l.n) × (every_to l.i (device_right l.most l.top l.hardcoded l.serial) ≡ true)
+
+abbrev pub decreases-loop-i : goal.decreases-loop-i
+decreases-loop-i l = l.n - l.i
