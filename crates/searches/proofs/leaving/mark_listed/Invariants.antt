@@ -1,0 +1,16 @@
+-- `searches::leaving::mark_listed` meets its contract: the objects listed so far are marked. Assumes nothing.
+use lib.ListN.{length}
+use mathlib.Core.Path.{◌≡◌, refl}
+use Prim.Native.Nat.{◌-◌, ◌≤◌}
+use Rattle.searches.specs.Asking.{Marks}
+use Rattle.effect.specs.Moves.{listed}
+use Rattle.state.proofs.Splicing.{length_turn}
+use Rattle.searches.proofs.Marking
+use Rattle.searches.proofs.Marking.{slots}
+use Rattle.searches.proofs.leaving.mark_listed.Given as goal
+
+abbrev pub invariant-loop-i : goal.invariant-loop-i
+invariant-loop-i l = (l.i ≤ l.count) × (length l.table ≡ slots) × Marks l.table (listed l.list l.i)
+
+abbrev pub decreases-loop-i : goal.decreases-loop-i
+decreases-loop-i l = l.count - l.i
