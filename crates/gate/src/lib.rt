@@ -1,4 +1,4 @@
-// What a C host calls: numbers and byte areas in, a number out.
+// What a C host calls, by the crate gate_c: numbers and byte areas in, a number out.
 
 #![tactic(auto)]
 
@@ -15,8 +15,7 @@ use model::Written;
 use state::room::{area_length, room_for};
 
 // Questions 1 to 6 of a configuration file: 0, or the number of the first that is answered with no.
-#[unsafe(no_mangle)]
-pub extern "C" fn gate_load_check(line: &[u8]) -> u32
+pub fn gate_load_check(line: &[u8]) -> u32
     ensures { result ≡ (load line.now).answer }
 {
     let loaded = config::load(line);
@@ -25,8 +24,7 @@ pub extern "C" fn gate_load_check(line: &[u8]) -> u32
 
 // How long the state area of a line is (request N2). The answer has a kind: done with the length, or refused with the
 // question, 1 to 6.
-#[unsafe(no_mangle)]
-pub extern "C" fn gate_state_bytes(line: &[u8]) -> u64
+pub fn gate_state_bytes(line: &[u8]) -> u64
     ensures { result ≡ coded (state_bytes line.now) }
 {
     let loaded = config::load(line);
@@ -40,8 +38,7 @@ pub extern "C" fn gate_state_bytes(line: &[u8]) -> u64
 // Which object record of a state area is the first that breaks a rule of question 9 (request N3). The answer has a
 // kind: done with its number, from 1, or 0 if none does; or refused with the question, 1 to 6 for the file, 7 for the
 // area's length.
-#[unsafe(no_mangle)]
-pub extern "C" fn gate_first_bad(line: &[u8], state: &[u8]) -> u64
+pub fn gate_first_bad(line: &[u8], state: &[u8]) -> u64
     ensures { result ≡ coded (first_bad_in line.now state.now) }
 {
     let loaded = config::load(line);
@@ -66,8 +63,7 @@ pub extern "C" fn gate_first_bad(line: &[u8], state: &[u8]) -> u64
 }
 
 // A fresh state in the area lent: questions 1 to 6, then 7. A refusal leaves the area as it was.
-#[unsafe(no_mangle)]
-pub extern "C" fn gate_fresh(line: &[u8], state: &mut [u8]) -> u32
+pub fn gate_fresh(line: &[u8], state: &mut [u8]) -> u32
     ensures { Made line.now state.old result state.new }
 {
     let loaded = config::load(line);
@@ -85,8 +81,7 @@ pub extern "C" fn gate_fresh(line: &[u8], state: &mut [u8]) -> u32
 
 // An operation (document 01: operation record) on the state area lent: questions 1 to 16, 23, 17 to 20, then 22 and 21.
 // At 0 it is carried out, and a read's contents stand in the answer area. A refusal leaves both areas as they were.
-#[unsafe(no_mangle)]
-pub extern "C" fn gate_operate(line: &[u8], state: &mut [u8], rec: &[u8], answer: &mut [u8]) -> u32
+pub fn gate_operate(line: &[u8], state: &mut [u8], rec: &[u8], answer: &mut [u8]) -> u32
     ensures { Operated line.now state.old rec.now answer.old result
         state.new answer.new }
 {
@@ -100,8 +95,7 @@ pub extern "C" fn gate_operate(line: &[u8], state: &mut [u8], rec: &[u8], answer
 
 // Loads a file and writes it into the area lent (request N1). The answer has a kind: done with the length written,
 // refused with the question, 1 to 6, or too short with the length needed; the last two leave the area as it was.
-#[unsafe(no_mangle)]
-pub extern "C" fn gate_rewrite(line: &[u8], out: &mut [u8]) -> u64
+pub fn gate_rewrite(line: &[u8], out: &mut [u8]) -> u64
     ensures value { result ≡ coded (rewrite_answer line.now (length out.old)) }
     ensures out_after { out.new ≡ rewrite_area line.now out.old }
 {
