@@ -20,19 +20,20 @@ DESTDIR ?=
 VERSION := 0.3.0
 
 library := target/staticlib/libgate.a
-sources := crates.txt $(shell find crates -name '*.rt' -o -name '*.antt')
+sources := crates.txt $(shell find crates -path 'crates/*/out' -prune -o \( -name '*.rt' -o -name '*.antt' \) -print)
 
 .PHONY: all lib places install check bench dist clean
 all: lib
 lib: $(library)
 
-# Only a proved library is written. The file gets today's time even if rt found it proved and left it as it was.
+# Only a proved library is written: rt makes it in the crate of its exports, crates/gate_c. The file gets today's time
+# even if rt found it proved and left it as it was.
 target/staticlib/lib%.a: $(sources)
 	@command -v rt > /dev/null || { echo "rt of the Rattle toolchain is not installed: it builds lib$*.a" >&2; exit 1; }
 	@echo "building lib$*.a, which is proved first: some minutes" >&2
-	@mkdir -p target
-	@rt staticlib $* > target/$*.log 2>&1 || { tail -n 20 target/$*.log >&2; exit 1; }
-	@touch $@
+	@mkdir -p target/staticlib
+	@(cd crates/$*_c && rt lib) > target/$*.log 2>&1 || { tail -n 20 target/$*.log >&2; exit 1; }
+	@install -m 644 crates/$*_c/out/lib$*_c.a $@
 
 # What make, the shell, sed or pkg-config would take for its own is refused before anything is done.
 tab := $(empty)	$(empty)

@@ -25,10 +25,20 @@ cat > "$out/bin/python3" << 'END'
 END
 cat > "$out/bin/rt" << 'END'
 #!/usr/bin/env bash
-case "$1 $FAILS" in
-"fmt fmt") exit 1 ;;
+none='rt: ok; handles allowed: none; must-fail edits: 0 refused'
+ok='rt: ok; handles allowed: none; must-fail edits: 55 refused'
+all='every proof and must-fail edit was done in this run'
+kept='done in this run: 2 of the 9 proofs (of crates and of their tests); the others are kept from earlier runs'
+case "$* $FAILS" in
 "ci rt") printf 'rt: FAILED: model\n1 passed, 1 failed\n' && exit 1 ;;
-"ci "*) printf 'rt: ok\n2 passed, 0 failed\n' ;;
+"ci bad") printf '%s, 1 bad; %s\n2 passed, 0 failed\n' "$ok" "$all" ;;
+"ci bad-limit") printf '%s, 3 of them only by a limit, 12 bad; %s\n2 passed, 0 failed\n' "$ok" "$kept" ;;
+"ci bad-alone") printf '%s, 2 bad; %s\n2 passed, 0 failed\n' "$none" "$all" ;;
+"ci some") printf 'rt: model and the crates below passed\n2 passed, 0 failed (model: not the gate)\n' ;;
+"ci silent") printf 'rt: model proved\n2 passed, 0 failed\n' ;;
+"ci kept") printf '%s, 3 of them only by a limit; %s\n2 passed, 0 failed\n' "$ok" "$kept" ;;
+"ci "*) printf '%s; %s\n2 passed, 0 failed\n' "$ok" "$all" ;;
+*) echo "rt: $*" && exit 1 ;;
 esac
 END
 cat > "$out/bin/make" << 'END'
@@ -49,8 +59,14 @@ must_end() {
     fi
 }
 must_end nothing 0 "2 passed, 0 failed"
-must_end fmt 1 ""
+must_end kept 0 "2 passed, 0 failed"
 must_end rt 1 "1 passed, 1 failed"
+for fault in bad bad-limit bad-alone; do
+    must_end $fault 1 "gate: must-fail edits are bad: they could not be tried, and show nothing"
+done
+for fault in some silent; do
+    must_end $fault 1 "gate: rt ci ended well, and yet without its line of what passed"
+done
 must_end plan 1 "tests/plan.sh ended with status 1"
 must_end lib 1 "--no-print-directory lib"
 must_end vectors 1 "part: make .* lib \([0-9]+ s\)"

@@ -21,7 +21,7 @@ TITLES = {"specs": "Definitions", "proofs": "Theorems"}
 
 def listed(folder):
     """The modules of a folder in the order of its Lib.antt, which has each file once and nothing else."""
-    names = re.findall(r"^pub mod (\w+)$", (MODEL / folder / "Lib.antt").read_text(encoding="utf-8"), re.MULTILINE)
+    names = re.findall(r"^(?:pub )?mod (\w+)$", (MODEL / folder / "Lib.antt").read_text(encoding="utf-8"), re.MULTILINE)
     files = sorted(path.stem for path in (MODEL / folder).glob("*.antt") if path.stem != "Lib")
     for name in sorted({*names, *files}):
         if names.count(name) != files.count(name):
@@ -32,7 +32,7 @@ def listed(folder):
 
 def imported(folder, text):
     """The modules of the same folder that a file uses; what src/ declares is none of them."""
-    return set(re.findall(rf"^use Rattle·model·{folder}\.{folder}\.(\w+)\.", text, re.MULTILINE)) - {"declared"}
+    return set(re.findall(rf"^use Rattle\.model\.{folder}\.(\w+)\.", text, re.MULTILINE)) - {"declared"}
 
 
 def ordered(folder, texts):

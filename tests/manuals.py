@@ -64,7 +64,7 @@ def copy_repository(folder):
         if status:
             raise Fault(f"'{' '.join(words)}' failed:\n{text}")
     copy = pathlib.Path(folder) / "kolluwar"
-    shutil.copytree(ROOT, copy, symlinks=True, ignore=shutil.ignore_patterns(".git", "target", "__pycache__"))
+    shutil.copytree(ROOT, copy, symlinks=True, ignore=shutil.ignore_patterns(".git", "target", "__pycache__", "out"))
     (copy / "target").symlink_to(ROOT / "target")
     return copy
 

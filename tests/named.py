@@ -11,7 +11,7 @@ from made import ROOT  # noqa: E402
 
 PAGE = ROOT / "docs" / "CHANGING.md"
 FOLDERS = ("crates", "reference", "tools", "tests", "bench", "bindings", "include", "tables", "examples", "docs")
-BUILT = {"target", "__pycache__"}
+BUILT = {"target", "__pycache__", "out"}
 ENDINGS = re.compile(r"\.(?:antt|rt|rs|py|c|h|sh|md|ini|edit|txt|csv)$")
 # A commit, and words that stand for any name.
 COMMIT = re.compile(r"[0-9a-f]{7}")

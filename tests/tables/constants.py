@@ -7,7 +7,8 @@ from data import ROOT, Fault
 CONSTANT = re.compile(r"^(?:pub(?:\(crate\))? )?const (\w+): \w+ = ([^;]+);", re.MULTILINE)
 # A function of one number whose body is one sum.
 FUNCTION = re.compile(r"^(?:pub(?:\(crate\))? )?const fn (\w+)\((\w+): \w+\) -> \w+ {\n([^;{}]+)\n}", re.MULTILINE)
-IMPORT = re.compile(r"^use (\w+)::(\w+);", re.MULTILINE)
+# One name of another crate, or several in braces.
+IMPORT = re.compile(r"^use (\w+)::(?:(\w+)|{([^{}]*)});", re.MULTILINE)
 DEFINE = re.compile(r"^#define (\w+) (\d+)$", re.MULTILINE)
 SIGNS = {ast.Add: lambda a, b: a + b, ast.Sub: lambda a, b: a - b, ast.Mult: lambda a, b: a * b}
 
@@ -36,7 +37,8 @@ def of_source(path, name):
     """A constant of a Rattle or Rust file; what it imports stands in crates/NAME/src/lib.rt."""
     text = text_of(path)
     made = dict(CONSTANT.findall(text))
-    imported = {constant: crate for crate, constant in IMPORT.findall(text)}
+    imported = {constant: crate for crate, one, several in IMPORT.findall(text)
+                for constant in re.findall(r"\w+", one or several)}
     if name in imported:
         return of_source(f"crates/{imported[name]}/src/lib.rt", name)
     if name not in made:

@@ -5,7 +5,7 @@ import re
 from constants import text_of
 from data import Fault
 
-LIBRARY = "crates/gate/src/lib.rt"
+LIBRARY = "crates/gate_c/src/lib.rt"
 HEADER = "include/sorter_gate.h"
 RUST = ("bindings/rust/src/lib.rs", "reference/matching/src/library.rs")
 # `record` is a reserved word of the proof language, so that the library's contract calls it `rec`.
@@ -13,7 +13,7 @@ NAMES = {"rec": "record"}
 # A type of the library: what C and Rust call it; a slice's length comes behind the pointer.
 TYPES = {"&[u8]": ("const uint8_t *", "*const u8"), "&mut [u8]": ("uint8_t *", "*mut u8"),
          "u64": ("uint64_t", "u64"), "u32": ("uint32_t", "u32"), "usize": ("size_t", "usize"), "u8": ("uint8_t", "u8")}
-EXPORTED = re.compile(r'^#\[no_mangle\]\npub extern "C" fn (\w+)\(([^)]*)\) -> (\w+)$', re.MULTILINE)
+EXPORTED = re.compile(r'^#\[unsafe\(no_mangle\)\]\npub extern "C" fn (\w+)\(([^)]*)\) -> (\w+)$', re.MULTILINE)
 IN_C = re.compile(r"^(\w+) (\w+)\(([^)]*)\);$", re.MULTILINE)
 IN_RUST = re.compile(r"^    fn (\w+)\(([^)]*)\) -> (\w+);$", re.MULTILINE)
 

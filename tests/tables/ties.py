@@ -11,11 +11,11 @@ SPECS = "crates/model/specs"
 JUDGE = f"{SPECS}/Questions.antt"
 CODES = "crates/operation/src/codes.rt"
 # The code that creates a green zone, by the model.
-GREEN_CODE = f"{SPECS}/Operation.antt", "greenCode"
+GREEN_CODE = f"{SPECS}/Operation.antt", "green_code"
 KINDS_MODEL = f"{SPECS}/Rewriting.antt"
 KINDS_CODE = "crates/writer/src/lib.rt"
 # How the model puts kind and number together, which header and binding take apart again.
-CODED = "coded w = kindOfAnswer w * kindUnit + numberOfAnswer w"
+CODED = "coded w = kind_of_answer w * kind_unit + number_of_answer w"
 # What crates/operation calls what the planner's tables call otherwise.
 FAMILIES = {"Write": "write", "Copy": "read", "Create": "create", "Destroy": "destroy", "Activate": "activate",
             "Deactivate": "deactivate", "Lock": "lock", "Unlock": "unlock"}
@@ -23,7 +23,7 @@ ACTORS = {"Driver": "driver", "Device": "card", "External": "nobody"}
 READERS = {"Item": "who, items", "Pair": "who, pairs", "read_partition": "where", "read_activation": "who, where",
            "Object": "where, objects", "read_deactivation": "who"}
 # The model's file in which the writer puts its questions, how, and how the table says of a question that it does.
-WRITER, WRITTEN, WRITER_PUTS = f"{SPECS}/ConfigWrite.antt", re.compile(r"\baskFirst (\d+) \("), "The writer puts it "
+WRITER, WRITTEN, WRITER_PUTS = f"{SPECS}/ConfigWrite.antt", re.compile(r"\bask_first (\d+) \("), "The writer puts it "
 # A figure of a manual: three digits or more, or with a comma.
 FIGURE = re.compile(r"(?<![\w.])\d{1,3}(?:,\d{3})+(?!\w)|(?<![\w.,])\d{3,}(?!\w)")
 CONSOLE = re.compile(r"^```console[^\n]*\n.*?^```$", re.DOTALL | re.MULTILINE)
@@ -144,7 +144,7 @@ def check_kinds():
     """Each kind is the model's and the writer's, of the case that the table names; the model has no other, and puts an
     answer together as it is taken apart."""
     text, rows = text_of(KINDS_MODEL), kinds()
-    cases = dict(re.findall(r"^kindOfAnswer \((\w+) \w+\) = (\w+)$", text, re.MULTILINE))
+    cases = dict(re.findall(r"^kind_of_answer \((\w+) \w+\) = (\w+)$", text, re.MULTILINE))
     if cases != {row["case"]: row["model"] for row in rows.values()}:
         raise Fault(f"tables/kinds.ini has other cases than {KINDS_MODEL}: {cases}")
     if CODED not in text.splitlines():
