@@ -81,7 +81,8 @@ fine-inside kind b devices o p y t f e is =
     neither false true k = (refl, refl)
     neither false false k = absurd (true≢false k)
 
-    inside : (n : ℕ) → In devices (n + 1) → four || not (eqb (object_in b o) (device_in b (n + 1))) ≡ false → bit y n ≡ 1
+    inside : (n : ℕ) → In devices (n + 1) → four || not (eqb (object_in b o) (device_in b (n + 1))) ≡ false → bit y n
+        ≡ 1
     inside n i k =
         let (s, t') = neither four (eqb (object_in b o) (device_in b (n + 1))) k in
         pick_in (not four) (get_or t p 0) y n is s

@@ -144,7 +144,8 @@ module _ (m : Scene) (f k t a : List ℕ) (d d' w v : ℕ) (g : Going m f k t a 
         }
 
 -- devices that are new leave less room
-pub fresh-slack : (a : List ℕ) (x v w y : ℕ) → v < length a → Without x (get_or a v 0) w → (w % 2 ^ most_devices ≡ 0 → ⊥)
+pub fresh-slack : (a : List ℕ) (x v w y : ℕ) → v < length a → Without x (get_or a v 0) w →
+    (w % 2 ^ most_devices ≡ 0 → ⊥)
     → y ≡ bit_or (get_or a v 0) (w % 2 ^ most_devices) → y ≤ 2 ^ 64 → slack (set a v y) < slack a
 fresh-slack a x v w y few n some is fit =
     let r = w % 2 ^ most_devices in

@@ -84,7 +84,8 @@ pub fn crossing<'a>(
     requires values_ok { ValuesOk counts count.now entries.now }
     requires owners_ok { OwnersOk counts class.now owner.now }
     requires area_ok { AreaOk counts kind.now area.now room }
-    ensures result_value { (d : Devices) (q : ℕ) → (finding_means q result).0 ≡ ask q (confined (search_config d counts kind.now
+    ensures result_value { (d : Devices) (q : ℕ) → (finding_means q result).0 ≡ ask q
+        (confined (search_config d counts kind.now
         class.now owner.now count.now entries.now)
         (view room area.now)) 0 }
     ensures crossing { (d : Devices) (q : ℕ) → IsCrossing (search_config d counts kind.now class.now
@@ -114,7 +115,8 @@ pub fn naming<'a>(
     requires values_ok { ValuesOk counts count.now entries.now }
     requires owners_ok { OwnersOk counts class.now owner.now }
     requires area_ok { AreaOk counts kind.now area.now room }
-    ensures result_value { (d : Devices) → (finding_means 20 result).0 ≡ ask 20 (unnamed (search_config d counts kind.now
+    ensures result_value { (d : Devices) → (finding_means 20 result).0 ≡ ask 20
+        (unnamed (search_config d counts kind.now
         class.now owner.now count.now entries.now)
         (view room area.now) (λ o. eqb (get_or concerned.now o 0) 1) but) 0 }
     ensures naming { (d : Devices) → IsNaming (search_config d counts kind.now class.now

@@ -96,7 +96,8 @@ stored-few counts kinds o mode h = go (eqb (get_or kinds o 0) 1 && leb 2 mode) h
 
 -- three bytes from `at` on are an object
 module _ (s : List ℕ) (counts : Counts) (o at : ℕ) (t : Objects) (k c w : ℕ) (h : at < length s - 2) where
-  pub object_quick : k ≡ get_or s at 0 → c ≡ get_or s (at + 1) 0 → w ≡ get_or s (at + 2) 0 → is_object counts k c w ≡ true
+  pub object_quick : k ≡ get_or s at 0 → c ≡ get_or s (at + 1) 0 → w ≡ get_or s (at + 2) 0 → is_object counts k c w ≡
+      true
       → Within counts → read (set_object t o k c w) (at + 3) ≡ object s counts o at t
   unfolding is_object is_owner object_to on_field
   object_quick e f g z within =

@@ -170,7 +170,8 @@ module _ (few most : ℕ) (wider : few ≤ most) (s : List ℕ) where
             (fit v next (leb low v && leb v high))
         go (Bad Cut) (Bad Cut) e f = inl refl
         go (Bad Cut) (Bad Form) e f = absurd (true≢false (ap is_cut (sym e) ∙ (is_cut_lem few most s at ∙ ap is_cut f)))
-        go (Bad Cut) (Got v next) e f = absurd (true≢false (ap is_cut (sym e) ∙ (is_cut_lem few most s at ∙ ap is_cut f)))
+        go (Bad Cut) (Got v next) e f = absurd
+            (true≢false (ap is_cut (sym e) ∙ (is_cut_lem few most s at ∙ ap is_cut f)))
         go (Bad Form) (Bad Cut) e f = absurd (false≢true (ap is_cut (sym e) ∙ (is_cut_lem few most s at ∙ ap is_cut f)))
         go (Bad Form) (Bad Form) e f = inl refl
         go (Bad Form) (Got v next) e f =
@@ -262,7 +263,8 @@ module _ (few most : ℕ) (wider : few ≤ most) (s : List ℕ) where
     unfolding value_to stop
     value_turned kinds v at t =
         row_turned OutTable (stop t) (λ q. refl) value_row value_low at _ _ λ vs next.
-        turns_turned (entry_to few s counts kinds v) (entry_to most s counts kinds v) (entry_turned kinds v) (get_or vs 0 0)
+        turns_turned (entry_to few s counts kinds v) (entry_to most s counts kinds v) (entry_turned kinds v)
+        (get_or vs 0 0)
         0 next (set_count t v (get_or vs 0 0))
 
     group_turned : {T : Type 0} (p p' : Progress T) → Turned OutTable p p' → (k k' : T → ℕ → Loaded)

@@ -8,7 +8,8 @@ use native.Mathlib.Omega.{arith}
 use lib.Dec.{leb}
 use borrow.Author.Tests.{leb-true}
 use Rattle.model.specs.Number.{most_number, most_before, number_to, number_at}
-use Rattle.model.specs.Config.{most_drivers, most_devices, most_objects, most_values, serial_edition, latest, first_limits}
+use Rattle.model.specs.Config.{most_drivers, most_devices, most_objects, most_values}
+use Rattle.model.specs.Config.{serial_edition, latest, first_limits}
 use Rattle.model.specs.ConfigFile.{
   ranged,
   field_to,
@@ -100,7 +101,8 @@ module _ (s : List ℕ) where
   counts_turned = go (number_to most_before s 0) (number_to most_number s 0) refl refl
     where
       go : (n m : Num) → number_to most_before s 0 ≡ n → number_to most_number s 0 ≡ m
-          → Here (on_field Stopped (ranged 1 1 n) (rest most_before)) (on_field Stopped (ranged 1 2 m) (rest most_number))
+          → Here (on_field Stopped (ranged 1 1 n) (rest most_before))
+          (on_field Stopped (ranged 1 2 m) (rest most_number))
       go (Got v next) m e f =
           let r = still_read most_before most_number (omega arith) s 0 v next e in
           subst (λ (x : Num). Here (on_field Stopped (ranged 1 1 (Got v next)) (rest most_before))

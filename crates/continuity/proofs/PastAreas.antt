@@ -121,7 +121,8 @@ module _ (past : Past) {room : ℕ} (config : Config) (b : State) (kept : Kept r
   view_in_lem = go past.locks refl
     where
       go : (t : Bool) → past.locks ≡ t
-          → cond t (view room (cond t (layout b) (older_layout b))) (older_view room (cond t (layout b) (older_layout b)))
+          → cond t (view room (cond t (layout b) (older_layout b)))
+          (older_view room (cond t (layout b) (older_layout b)))
           ≡ b
       go true e = view-layout room b kept.shape
       go false e =

@@ -84,7 +84,8 @@ module _ (past : Past) (real : Real past) (file : List ℕ) (h : (load_in past f
         eq-eqb _ _ (length_in_lem past config b kept formed fit) in
         let v = view_in_lem past config b kept formed fit in
         let e₉ : formed_in past room config (view_in past room (layout_in past b)) ≡ true =
-        subst (λ (x : State). formed_in past room config x ≡ true) (sym v) (formed_in_lem past config b kept formed fit) in
+        subst (λ (x : State). formed_in past room config x ≡ true) (sym v)
+        (formed_in_lem past config b kept formed fit) in
         ap (λ (t : Bool). Q.ask 7 t (Q.ask 8 (leb answer_bytes (length answer))
         (Q.ask 9 (formed_in past room config (view_in past room (layout_in past b)))
         (rest (view_in past room (layout_in past b)))))) e₇

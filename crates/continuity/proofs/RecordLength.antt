@@ -181,7 +181,8 @@ module _ (few most : ℕ) (enough : most_code ≤ few) (s : List ℕ) where
       → Args Activate External code at (listing_by most code s at)
   unfolding listing_by with_head
   listing_took code at h =
-      let r = lists_took (object_by few s) (object_by most s) listed_length listed_numbers (object_took few most enough s)
+      let r = lists_took (object_by few s) (object_by most s) listed_length listed_numbers
+      (object_took few most enough s)
       (λ v n. with_head code 0 v n) (λ op. op.partition) code (λ v n. refl) (λ v n. refl) (λ v n. refl)
       (λ v n. head_roomy code 0 v n) (λ op op' g. g.partition) at h in
       record { named = r.named; far = r.far; high = r.high; less = r.less }

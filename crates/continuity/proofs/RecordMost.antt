@@ -11,7 +11,8 @@ use borrow.Author.Tests.{leb-true, le-leb, eqb-true, ltb-true, ltb-false}
 use Rattle.model.specs.Number.{most_before, bytes_to}
 use Rattle.model.specs.Config.{most_objects, from1to}
 use Rattle.model.specs.State.{most_partition}
-use Rattle.model.specs.Operation.{most_code, most_items, object_at, second_at, form_at, family_of, actor_of, read_operation}
+use Rattle.model.specs.Operation.{most_code, most_items, object_at, second_at}
+use Rattle.model.specs.Operation.{form_at, family_of, actor_of, read_operation}
 use Rattle.model.specs.Questions.{actor_exists, names_partition, item_exists, is_object, q11}
 use Rattle.model.specs.declared.Family.{Family}
 use Rattle.model.specs.declared.Family.TheVariants.{Write, Copy, Create, Destroy, Activate, Deactivate, Lock, Unlock}

@@ -1,5 +1,6 @@
 -- Document 02: the gate as it was before a request, as today's definitions at older parameters.
-use Rattle.std.specs.Prelude.{ℕ, zero, suc, List, [], ◌∷◌, ◌++◌, Bool, true, false, not, cond, ◌&&◌, ◌||◌, length, leb, eqb}
+use Rattle.std.specs.Prelude.{ℕ, zero, suc, List, [], ◌∷◌, ◌++◌, Bool, true}
+use Rattle.std.specs.Prelude.{false, not, cond, ◌&&◌, ◌||◌, length, leb, eqb}
 use Rattle.model.specs.Base.{all, every}
 use Rattle.model.specs.Number.{most_before}
 use Rattle.model.specs.Config.{small_room, Limits, first_limits}

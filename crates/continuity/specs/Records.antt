@@ -1,5 +1,6 @@
 -- Document 01, 'Operation records': how long an operation's record is, by its numbers, which are in shortest form.
-use Rattle.std.specs.Prelude.{ℕ, zero, suc, ◌+◌, ◌≤◌, ◌<◌, ◌≡◌, ◌↔◌, List, [], ◌∷◌, ◌++◌, Bool, true, false, cond, length, leb, eqb}
+use Rattle.std.specs.Prelude.{ℕ, zero, suc, ◌+◌, ◌≤◌, ◌<◌, ◌≡◌, ◌↔◌, List, []}
+use Rattle.std.specs.Prelude.{◌∷◌, ◌++◌, Bool, true, false, cond, length, leb, eqb}
 use Rattle.model.specs.Base.{all}
 use Rattle.model.specs.Number.{most_before, bytes_to}
 use Rattle.model.specs.State.{content_bytes}

@@ -34,7 +34,8 @@ module _ (seconds forms raw : List ℕ) (i : ℕ) where
   unfolding item_of operation_of
   item-value f v r e z g h = rw (← e, z, ← g) h
 
-  pub item_raw : (f : ℕ) (r : List ℕ) → content_bytes * i + content_bytes ≤ length raw → f ≡ get_or forms i 0 → (f ≡ 0 → ⊥)
+  pub item_raw : (f : ℕ) (r : List ℕ) → content_bytes * i + content_bytes ≤ length raw → f ≡ get_or forms i 0 →
+      (f ≡ 0 → ⊥)
       → r ≡ slot raw i → r ≡ item_of (operation_of [] seconds forms raw) i
   unfolding item_of operation_of part
   item_raw f r l e z h = rw (← e, ne_eqb f 0 z)
@@ -54,7 +55,8 @@ unfolding with_content written item_of operation_of
 write_step objects seconds forms raw i b = refl
 
 restore_step : (seconds answer : List ℕ) (i : ℕ) (b : State)
-    → with_content (restored seconds answer i b) (get_or seconds i 0) (slot answer i) ≡ restored seconds answer (suc i) b
+    → with_content (restored seconds answer i b) (get_or seconds i 0) (slot answer i) ≡ restored seconds answer
+    (suc i) b
 unfolding with_content restored
 restore_step seconds answer i b = refl
 
@@ -134,7 +136,8 @@ module _ (objects : List ℕ) (room : ℕ) (s d₀ : List ℕ) where
   read_out_none = refl
 
   pub read_out_on : (i n : ℕ) (d t c : List ℕ)
-      → d ≡ sources (operation_of objects [] [] []) (view room s) i ++ drop (content_bytes * i) d₀ → n ≡ get_or objects i 0
+      → d ≡ sources (operation_of objects [] [] []) (view room s) i ++ drop (content_bytes * i) d₀ → n ≡ get_or
+      objects i 0
       → c ≡ content_of (view room s) n → t ≡ splice d (content_bytes * i) c
       → t ≡ sources (operation_of objects [] [] []) (view room s) (i + 1) ++ drop (content_bytes * (i + 1)) d₀
   unfolding sources operation_of
@@ -144,7 +147,8 @@ module _ (objects : List ℕ) (room : ℕ) (s d₀ : List ℕ) where
       (f ∙ ap (content_of (view room s)) e))
 
   pub read_out_end : (i count : ℕ) (d : List ℕ)
-      → d ≡ sources (operation_of objects [] [] []) (view room s) i ++ drop (content_bytes * i) d₀ → i ≤ count → count ≤ i
+      → d ≡ sources (operation_of objects [] [] []) (view room s) i ++ drop (content_bytes * i) d₀ → i ≤ count →
+      count ≤ i
       → d ≡ sources (operation_of objects [] [] []) (view room s) count ++ drop (content_bytes * count) d₀
   read_out_end i count d inv h k =
       let e : i ≡ count = omega arith in

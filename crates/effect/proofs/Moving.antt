@@ -25,7 +25,8 @@ use Rattle.model.specs.declared.Operation.{Operation}
 use Rattle.model.proofs.Lists.{partly, partly_get, partly_more}
 use Rattle.model.proofs.StateLaws.{Shape, view-layout}
 use Rattle.model.proofs.StateBytes.{layout-view}
-use Rattle.state.specs.Change.{with_status, with_driver, with_device, with_object, with_content, with_lock, objects_lent}
+use Rattle.state.specs.Change.{with_status, with_driver, with_device, with_object}
+use Rattle.state.specs.Change.{with_content, with_lock, objects_lent}
 use Rattle.effect.specs.Moves.{moved_at, clearable, owned_by, listed, moved}
 use Rattle.state.specs.Bytes.{Lesser}
 use Rattle.state.proofs.Idle.{idle_rest, lesser_end}
@@ -52,7 +53,8 @@ module _ (kind : List ℕ) (n : ℕ) (clears : Bool) where
   clear_some k h e = rw (not-false clears h, e)
 
 -- the number, the class and the owner of an object
-pub owned_by_lem : (objects : ℕ) (class owner : List ℕ) (a k n : ℕ) {x y : ℕ} → x ≡ get_or class n 0 → y ≡ get_or owner n 0
+pub owned_by_lem : (objects : ℕ) (class owner : List ℕ) (a k n : ℕ) {x y : ℕ} → x ≡ get_or class n 0 → y ≡ get_or
+    owner n 0
     → (leb 1 n && leb n objects && eqb x a && eqb y k) ≡ owned_by objects class owner a k n
 unfolding owned_by objects_lent
 owned_by_lem objects class owner a k n p q = rw (p, q)

@@ -108,7 +108,8 @@ module _ (m : State) (a b c p : ℕ) (e : shown m ≡ a ∷ b ∷ c ∷ 1 ∷ 1 
 
   reads_two : a ≡ 1 → CanRead config m 1 2
   reads_two h =
-      next (entry_of 2 1 0) (own (some (device_in m 1) device_in_lem) hardwired) (entry_in 1 1 (one-held ∙ h) value_1) refl
+      next (entry_of 2 1 0) (own (some (device_in m 1) device_in_lem) hardwired)
+      (entry_in 1 1 (one-held ∙ h) value_1) refl
       (both_true two (some (object_in m 2) two_in)) refl
 
   reads_three : a ≡ 1 → b ≡ 4 → CanRead config m 1 3

@@ -74,36 +74,37 @@ module _ (config : Config) (room : ℕ) (area bytes answer : List ℕ) where
       no_8 h = refused {n = 8} (λ z. absurd (omega (arith, z)))
           (rw (← e₇, y₇, lt-leb answer_bytes (length answer) h))
 
-      module _ (y₈ : answer_bytes ≤ length answer) {t₉ : Bool} (e₉ : t₉ ≡ well_formed room config (view room area)) where
-        pub no_9 : t₉ ≡ false → Carried room config area bytes answer 9 area answer
-        no_9 h = refused {n = 9} (λ z. absurd (omega (arith, z)))
-            (rw (← e₇, y₇, le-leb answer_bytes (length answer) y₈, ← e₉, h))
+      module _ (y₈ : answer_bytes ≤ length answer) {t₉ : Bool} (e₉ : t₉ ≡ well_formed room config (view room area))
+        where
+          pub no_9 : t₉ ≡ false → Carried room config area bytes answer 9 area answer
+          no_9 h = refused {n = 9} (λ z. absurd (omega (arith, z)))
+              (rw (← e₇, y₇, le-leb answer_bytes (length answer) y₈, ← e₉, h))
 
-        module _ (y₉ : t₉ ≡ true) {q₁₀ : ℕ} {op : Operation} (e₁₀ : q₁₀ ≡ (read_operation bytes).0)
-            (o₁₀ : op ≡ (read_operation bytes).1) where
-          judgement : verdict room config (read_operation bytes) area answer
-              ≡ or_else q₁₀ (judged config op (view room area))
-          judgement = rw (← e₇, y₇, le-leb answer_bytes (length answer) y₈, ← e₉, y₉, ← e₁₀, ← o₁₀)
+          module _ (y₉ : t₉ ≡ true) {q₁₀ : ℕ} {op : Operation} (e₁₀ : q₁₀ ≡ (read_operation bytes).0)
+              (o₁₀ : op ≡ (read_operation bytes).1) where
+            judgement : verdict room config (read_operation bytes) area answer
+                ≡ or_else q₁₀ (judged config op (view room area))
+            judgement = rw (← e₇, y₇, le-leb answer_bytes (length answer) y₈, ← e₉, y₉, ← e₁₀, ← o₁₀)
 
-          or_stop : (q rest : ℕ) → (q ≡ 0 → ⊥) → or_else q rest ≡ q
-          or_stop zero rest h = absurd (h refl)
-          or_stop (suc q) rest h = refl
+            or_stop : (q rest : ℕ) → (q ≡ 0 → ⊥) → or_else q rest ≡ q
+            or_stop zero rest h = absurd (h refl)
+            or_stop (suc q) rest h = refl
 
-          pub no_10 : (q₁₀ ≡ 0 → ⊥) → Carried room config area bytes answer q₁₀ area answer
-          no_10 h = refused h (judgement ∙ or_stop q₁₀ (judged config op (view room area)) h)
+            pub no_10 : (q₁₀ ≡ 0 → ⊥) → Carried room config area bytes answer q₁₀ area answer
+            no_10 h = refused h (judgement ∙ or_stop q₁₀ (judged config op (view room area)) h)
 
-          module _ (y₁₀ : q₁₀ ≡ 0) {q : ℕ} (e : q ≡ judged config op (view room area)) where
-            last : verdict room config (read_operation bytes) area answer ≡ q
-            last = judgement ∙ (ap (λ (n : ℕ). or_else n (judged config op (view room area))) y₁₀ ∙ sym e)
+            module _ (y₁₀ : q₁₀ ≡ 0) {q : ℕ} (e : q ≡ judged config op (view room area)) where
+              last : verdict room config (read_operation bytes) area answer ≡ q
+              last = judgement ∙ (ap (λ (n : ℕ). or_else n (judged config op (view room area))) y₁₀ ∙ sym e)
 
-            pub no_11 : (q ≡ 0 → ⊥) → Carried room config area bytes answer q area answer
-            no_11 h = refused h last
+              pub no_11 : (q ≡ 0 → ⊥) → Carried room config area bytes answer q area answer
+              no_11 h = refused h last
 
-            pub done : q ≡ 0 → {s a : List ℕ} → s ≡ layout (applied config op (view room area))
-                → a ≡ answered op (family_of op.code) (view room area) answer
-                → Carried room config area bytes answer 0 s a
-            unfolding carried
-            done h x y = rw (last ∙ h, ← o₁₀) (refl, (x, y))
+              pub done : q ≡ 0 → {s a : List ℕ} → s ≡ layout (applied config op (view room area))
+                  → a ≡ answered op (family_of op.code) (view room area) answer
+                  → Carried room config area bytes answer 0 s a
+              unfolding carried
+              done h x y = rw (last ∙ h, ← o₁₀) (refl, (x, y))
 
 neither : (x y z : Bool) → (x || y || z) ≡ false → (x ≡ false) × (y ≡ false) × (z ≡ false)
 neither true y z h = absurd (true≢false h)

@@ -14,7 +14,8 @@ use Rattle.model.specs.Base.{all, below}
 use Rattle.model.specs.Config.{Entry, entry_at, entries}
 use Rattle.model.specs.State.{State, green, driver_in, device_in, object_in, held}
 use Rattle.model.specs.Operation.{object_at, second_at}
-use Rattle.model.specs.Questions.{zone_of, quiet_entry, ringless, green_value, green_item, quiet_actor, green_items, q22}
+use Rattle.model.specs.Questions.{zone_of, quiet_entry, ringless, green_value}
+use Rattle.model.specs.Questions.{green_item, quiet_actor, green_items, q22}
 use Rattle.model.specs.declared.Family.{Family}
 use Rattle.model.specs.declared.Family.TheVariants.{
   Write,
@@ -154,7 +155,8 @@ module _ (m : Config) (kind hardcoded count table : List ℕ) (b : State) where
   value_same p zero = refl
   value_same p (suc v) = refl
 
-  ringless-same : (p c : ℕ) → value_passes (green_by kind b true p) count table (get_or hardcoded c 0) ≡ ringless config c
+  ringless-same : (p c : ℕ) → value_passes (green_by kind b true p) count table (get_or hardcoded c 0) ≡ ringless
+      config c
   unfolding value_passes all_from green_by home_by quiet_by entries
   ringless-same p c = go (get_or hardcoded c 0)
     where
@@ -162,7 +164,8 @@ module _ (m : Config) (kind hardcoded count table : List ℕ) (b : State) where
       go zero = refl
       go (suc v) = refl
 
-  item-same : (op : Operation) (f : Family) (p i : ℕ) → item_in kind count table b op f p i ≡ green_item config b op f p i
+  item-same : (op : Operation) (f : Family) (p i : ℕ) → item_in kind count table b op f p i ≡ green_item config b op
+      f p i
   unfolding item_in item_by
   item-same op Write p i = rw (value_same p (second_at op i))
   item-same op Copy p i = rw (value_same p (held b (object_at op i)))

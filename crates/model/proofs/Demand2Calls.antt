@@ -319,7 +319,8 @@ module _ (file area bytes answer : List ℕ) (u : Upto10 file area bytes answer)
     as_asked : (q : Family → Actor → Bool) → q (family_in bytes) (actor_in bytes) ≡ true → q f Device ≡ true
     as_asked q h = subst (λ (a : Actor). q f a ≡ true) e (subst (λ (g : Family). q g (actor_in bytes) ≡ true) d h)
 
-    by_23 : {P Q : Type 0} → (judge (config_in file) (state_in file area) (operation_in bytes) f Device ≡ 23) ↔ P → P ↔ Q
+    by_23 : {P Q : Type 0} → (judge (config_in file) (state_in file area) (operation_in bytes) f Device ≡ 23) ↔ P → P
+        ↔ Q
         → ((operate file area bytes answer).0 ≡ 23) ↔ Q
     by_23 w v =
         let j = judged_as file area bytes answer u f Device d e in

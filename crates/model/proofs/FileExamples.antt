@@ -32,5 +32,6 @@ unfolding file_answer bytes_of rows_from row_bytes rows_bytes file_of in_row in_
 exact = refl
 
 behind : write_area (load file_l).config (replicate 46 9) ≡ file_l ++ (9 ∷ [])
-unfolding file_answer bytes_of rows_from row_bytes rows_bytes file_of in_row in_ranges write_question write_answer write_area
+unfolding file_answer bytes_of rows_from row_bytes rows_bytes file_of in_row in_ranges write_question write_answer
+    write_area
 behind = refl

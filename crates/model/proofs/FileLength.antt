@@ -131,7 +131,8 @@ fits-since : (edition high m : ℕ) (counts : Counts) (rest : Row) → Fits rest
 unfolding row_bytes in_row
 fits-since edition high m counts rest fits = go (leb edition counts.edition)
   where
-    absent-fits : (vs : List ℕ) → in_row (absent rest) vs ≡ true → length (row_bytes (absent rest) vs) ≤ bytes_to high + m
+    absent-fits : (vs : List ℕ) → in_row (absent rest) vs ≡ true → length (row_bytes (absent rest) vs) ≤ bytes_to
+        high + m
     absent-fits [] h = omega arith
     absent-fits (v ∷ vs) h = omega (arith, fits vs (and_r (eqb v 0) (in_row rest vs) h))
 

@@ -131,7 +131,8 @@ judged-kept s at config ranges file =
 
 abbrev pub Counting : List ℕ → Counts → ℕ → Type 0
 Counting s counts next =
-    (in_row counts_row (counts_numbers counts) ≡ true) × (s ≡ row_bytes counts_row (counts_numbers counts) ++ drop next s)
+    (in_row counts_row (counts_numbers counts) ≡ true) ×
+    (s ≡ row_bytes counts_row (counts_numbers counts) ++ drop next s)
 
 pub counts-kept : (s : List ℕ) → Bytes s → HeadTold (Counting s) (counts_at s)
 unfolding counts_to

@@ -118,7 +118,8 @@ module _ (config : Config) (b : State) (kept : Kept config b) (formed : FormedBy
 
 -- one accepted operation
 module _ (config : Config) (op : Operation) (b : State) (c : ℕ) (locked : lock_of b c ≡ 1) where
-  out_after_lem : (f : Family) (a : Actor) → Kept config (apply config op f a b) → FormedBy config (apply config op f a b)
+  out_after_lem : (f : Family) (a : Actor) → Kept config (apply config op f a b) → FormedBy config
+      (apply config op f a b)
       → device_in b c ≡ 0 → device_in (apply config op f a b) c ≡ 0
   unfolding apply
   out_after_lem Write a kept formed out = out
@@ -126,7 +127,8 @@ module _ (config : Config) (op : Operation) (b : State) (c : ℕ) (locked : lock
   out_after_lem Create a kept formed out = out
   out_after_lem Destroy a kept formed out = out
   out_after_lem Activate a kept formed out = locked_outside config (apply config op Activate a b) kept formed c locked
-  out_after_lem Deactivate a kept formed out = locked_outside config (apply config op Deactivate a b) kept formed c locked
+  out_after_lem Deactivate a kept formed out = locked_outside config (apply config op Deactivate a b) kept formed c
+      locked
   out_after_lem Lock a kept formed out = out
   out_after_lem Unlock a kept formed out = out
 

@@ -61,7 +61,8 @@ contents_more (suc k) (x ∷ s) t h =
     go r = λ i. window_more content_bytes s t (omega arith) i ∷ r i
 
 -- it has the older columns, and no lock
-pub older_view_lem : (room : ℕ) (s : List ℕ) → length s ≡ older_length room → view room (s ++ no_locks) ≡ older_view room s
+pub older_view_lem : (room : ℕ) (s : List ℕ) → length s ≡ older_length room → view room (s ++ no_locks) ≡ older_view
+    room s
 unfolding view older_view
 older_view_lem room s h =
     λ i. record {
@@ -74,7 +75,8 @@ older_view_lem room s h =
           ∙ partitions_more room (drop records_from s) no_locks (omega (arith, length-drop records_from s))) i;
       content = (ap (contents_in room) (drop-append-le records_from s no_locks (omega arith))
           ∙ contents_more room (drop records_from s) no_locks (omega (arith, length-drop records_from s))) i;
-      lock = (ap (window most_devices) (drop_at s no_locks (locks_from room) h) ∙ window-all no_locks most_devices refl) i;
+      lock = (ap (window most_devices) (drop_at s no_locks (locks_from room) h) ∙ window-all no_locks most_devices
+          refl) i;
     }
 
 and_yes : (s t : Bool) → t ≡ true → (s && t) ≡ s

@@ -156,7 +156,8 @@ module _ (s : List ℕ) (end : ℕ) where
       (leb v high) p)) hi b.0 g in
       let (next, f, n) =
       row_read stop (rest v) (b.1 v hi) vs (and_r (leb low v && leb v high) (in_row (rest v) vs) i)
-      (λ ws next. k (v ∷ ws) next) (at + length (bytes_of v)) l (here_on at (bytes_of v) (row_bytes (rest v) vs ++ l) g) in
+      (λ ws next. k (v ∷ ws) next) (at + length (bytes_of v)) l
+      (here_on at (bytes_of v) (row_bytes (rest v) vs ++ l) g) in
       (next, rw e f, n)
   row_read stop (absent rest) b [] i k at l h = absurd (false≢true i)
   row_read stop (absent rest) b (v ∷ vs) i k at l h =
@@ -273,7 +274,8 @@ module _ {T : Type 0} (s : List ℕ) (told : T → ℕ → List Filled) (Fit : T
             ∙ (ap (λ (x : List ℕ). x ++ drop a s) (rows_append (told w (i + 1)) [] ∙ append-nil (rows_bytes
             (told w (i + 1))))
             ∙ (ap (λ (x : List ℕ). rows_bytes (told w (i + 1)) ++ x) q.bytes
-            ∙ (sym (append_assoc (rows_bytes (told w (i + 1))) (rows_bytes (rows_from (told w) n (i + 1))) (drop next s))
+            ∙ (sym (append_assoc (rows_bytes (told w (i + 1))) (rows_bytes (rows_from (told w) n (i + 1)))
+            (drop next s))
             ∙ ap (λ (x : List ℕ). x ++ drop next s)
             (sym (rows_append (told w (i + 1)) (rows_from (told w) n (i + 1))))))));
         right = λ k low high. right k low high (dec_le k (i + 1));

@@ -137,7 +137,8 @@ small-file file = (
 -- N2: the calls are those with the room fixed
 pub small_calls : (file : List ℕ) → (load_to small_limits file).answer ≡ 0 → (area bytes answer : List ℕ)
     → (make_fresh file area ≡ freshened small_room (load_to small_limits file) area)
-    × (operate file area bytes answer ≡ operated small_room (load_to small_limits file) (read_operation bytes) area answer)
+    × (operate file area bytes answer ≡ operated small_room (load_to small_limits file) (read_operation bytes) area
+    answer)
 unfolding make_fresh operate
 small_calls file h area bytes answer =
     let e : load file ≡ load_to small_limits file = (small-file file).0 h in

@@ -178,7 +178,8 @@ module _ (few most : ℕ) (wider : few ≤ most) (s : List ℕ) where
       unfolding value_to stop
       value_stays v at t =
           row_stays OutTable (stop t) (λ q low. (q, low, refl)) value_row at _ _ λ vs next.
-          turns_stay (entry_to few s counts kinds v) (entry_to most s counts kinds v) (entry_stays v) (get_or vs 0 0) 0 next
+          turns_stay (entry_to few s counts kinds v) (entry_to most s counts kinds v) (entry_stays v) (get_or vs 0 0)
+          0 next
           (set_count t v (get_or vs 0 0))
 
     -- what follows the counts

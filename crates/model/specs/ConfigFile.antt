@@ -1,5 +1,6 @@
 -- Document 01, 'Line file' and questions 1 to 6: the configuration that a file tells, or the first refusal.
-use Rattle.std.specs.Prelude.{ℕ, zero, suc, ◌+◌, List, [], ◌∷◌, Bool, true, false, not, cond, ◌&&◌, ◌||◌, length, get_or, set, leb, eqb}
+use Rattle.std.specs.Prelude.{ℕ, zero, suc, ◌+◌, List, [], ◌∷◌, Bool, true, false}
+use Rattle.std.specs.Prelude.{not, cond, ◌&&◌, ◌||◌, length, get_or, set, leb, eqb}
 use Rattle.model.specs.Base.{all, every}
 use Rattle.model.specs.Number.{most_number, number_to}
 use Rattle.model.specs.Config.{
@@ -170,7 +171,8 @@ abbrev pub object_of : Objects → ℕ → List ℕ → Objects
 object_of t o vs = set_object t o (get_or vs 0 0) (get_or vs 1 0) (get_or vs 2 0)
 
 unfoldable pub object_to : ℕ → List ℕ → Counts → ℕ → ℕ → Objects → Progress Objects
-object_to most s counts o at t = read_row_to most s at (object_row counts) (stop t) λ vs next. read (object_of t o vs) next
+object_to most s counts o at t = read_row_to most s at (object_row counts) (stop t) λ vs next. read
+    (object_of t o vs) next
 
 abbrev pub object : List ℕ → Counts → ℕ → ℕ → Objects → Progress Objects
 object = object_to most_number
@@ -197,7 +199,8 @@ abbrev pub device_of : Devices → ℕ → List ℕ → Devices
 device_of t v vs = set_device t v (get_or vs 0 0) (get_or vs 1 0)
 
 unfoldable pub device_to : ℕ → List ℕ → Counts → ℕ → ℕ → Devices → Progress Devices
-device_to most s counts v at t = read_row_to most s at (device_row counts) (stop t) λ vs next. read (device_of t v vs) next
+device_to most s counts v at t = read_row_to most s at (device_row counts) (stop t) λ vs next. read
+    (device_of t v vs) next
 
 abbrev pub device : List ℕ → Counts → ℕ → ℕ → Devices → Progress Devices
 device = device_to most_number

@@ -1,5 +1,6 @@
 -- Request N1: the file of a configuration, and the questions that are put to a configuration before it is written.
-use Rattle.std.specs.Prelude.{ℕ, zero, suc, ◌+◌, ◌*◌, ◌≤◌, ◌≡◌, List, [], ◌∷◌, ◌++◌, Bool, true, false, ◌&&◌, cond, length, get_or, drop, leb, eqb}
+use Rattle.std.specs.Prelude.{ℕ, zero, suc, ◌+◌, ◌*◌, ◌≤◌, ◌≡◌, List, [], ◌∷◌, ◌++◌}
+use Rattle.std.specs.Prelude.{Bool, true, false, ◌&&◌, cond, length, get_or, drop, leb, eqb}
 use Rattle.model.specs.Base.{all, any, every}
 use Rattle.model.specs.Number.{bytes_of, bytes_to}
 use Rattle.model.specs.Config.{
@@ -131,7 +132,8 @@ most_device_bytes = bytes_to most_values + bytes_to most_serial
 -- N1: how long a file is at most: edition and counts, objects, devices and values
 abbrev pub most_written : ℕ
 most_written =
-    most_counts_bytes + most_object_bytes * most_objects + most_device_bytes * most_devices + most_value_bytes * most_values
+    most_counts_bytes + most_object_bytes * most_objects + most_device_bytes * most_devices + most_value_bytes *
+    most_values
 
 -- N1: the file of a configuration
 unfoldable pub file_of : Config → List ℕ

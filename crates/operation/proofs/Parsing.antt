@@ -106,7 +106,8 @@ small_form : (at : ℕ) (t : List ℕ) (n : ℕ) → Bounded (form_at at t n)
 unfolding form_to formed_to
 small_form at t n =
     small_got (ltb n most_bytes && shortest t n && leb (value_of t n) most_number) (value_of t n) (at + n + 1) Form
-    (λ h. leb-true (value_of t n) most_number (right (ltb n most_bytes && shortest t n) (leb (value_of t n) most_number) h))
+    (λ h. leb-true (value_of t n) most_number
+    (right (ltb n most_bytes && shortest t n) (leb (value_of t n) most_number) h))
 
 small-number : (s : List ℕ) (at : ℕ) → Bounded (number_at s at)
 unfolding number_to head_to

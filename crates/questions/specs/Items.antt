@@ -74,7 +74,8 @@ named counts Unlock o v form = true
 
 -- item i, by the columns of objects, second numbers and forms
 unfoldable pub item_named : Counts → Family → List ℕ → List ℕ → List ℕ → ℕ → Bool
-item_named counts f objects seconds forms i = named counts f (get_or objects i 0) (get_or seconds i 0) (get_or forms i 0)
+item_named counts f objects seconds forms i = named counts f (get_or objects i 0) (get_or seconds i 0)
+    (get_or forms i 0)
 
 -- question 12, the object that item i changes or moves
 abbrev pub changed_in : List ℕ → List ℕ → Family → ℕ → ℕ

@@ -9,7 +9,8 @@ use lib.Dec.{leb, eqb}
 use lib.ListN.{length, get_or}
 use borrow.Author.Tests.{eqb-true, leb-true, le-leb}
 use Rattle.model.specs.Config.{kind_of, owner_of, hardcoded_of, entry_place, entry_at}
-use Rattle.model.specs.State.{State, content_of, held, value_bytes, area_length, view, same_bytes, a_value, right_content}
+use Rattle.model.specs.State.{State, content_of, held, value_bytes, area_length}
+use Rattle.model.specs.State.{view, same_bytes, a_value, right_content}
 use Rattle.model.specs.declared.Config.{Config}
 use Rattle.model.proofs.Lists.{and_l, and_r, or_true}
 use Rattle.model.proofs.Columns.{or_else_lem}

@@ -11,7 +11,8 @@ use borrow.Author.Tests.{eqb-true, eq-eqb, ne_eqb, leb-true}
 use Rattle.model.specs.Config.{most_objects, most_values, kind_of}
 use Rattle.model.specs.ConfigFile.{load}
 use Rattle.model.specs.Number.{most_number}
-use Rattle.model.specs.State.{State, object_in, content_of, room_for, area_length, view, layout, right_content, well_formed}
+use Rattle.model.specs.State.{State, object_in, content_of, room_for, area_length}
+use Rattle.model.specs.State.{view, layout, right_content, well_formed}
 use Rattle.model.specs.Operation.{family_of, actor_of, most_items, object_at, second_at, form_at, read_operation}
 use Rattle.model.specs.Effect.{apply, answer_bytes, concerned}
 use Rattle.model.specs.Questions.{q11, q13, q17, is_object, item_exists, is_kind, item_fits, zone_of}

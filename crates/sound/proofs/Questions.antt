@@ -168,7 +168,8 @@ module _ (kind class owner : List ℕ) where
   counted_room i w n owned l m h = omega (arith, counted-few i w owned h)
 
   pub counted_go : (i : ℕ) (owned next : List ℕ) → Counted i owned
-      → next ≡ noted owned (get_or kind (i + 1) 0) (get_or class (i + 1) 0) (get_or owner (i + 1) 0) → Counted (i + 1) next
+      → next ≡ noted owned (get_or kind (i + 1) 0) (get_or class (i + 1) 0) (get_or owner (i + 1) 0) → Counted
+      (i + 1) next
   unfolding marks
   counted_go i owned next h e c l =
       let k = get_or kind (i + 1) 0 in

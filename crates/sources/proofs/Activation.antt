@@ -224,13 +224,15 @@ module _ {room : ℕ} (config : Config) (sound : Sound config) (op : Operation) 
             inr (inr (
               w,
               ap (λ (c : List ℕ). get_or c 0 0) (hardcoded_in o d f)
-                  ∙ ap (hardcoded_of config) (owns-owner config 2 (itself op a) o (and_r (eqb (kind_of config o) 4) _ w)),
+                  ∙ ap (hardcoded_of config) (owns-owner config 2 (itself op a) o
+                  (and_r (eqb (kind_of config o) 4) _ w)),
             ))
         go d (inl k) (no f) =
             inr (inl (ap (λ (c : List ℕ). get_or c 0 0)
             (cleared-content o (from1to-low o config.counts.objects d)
             (omega (arith, from1to-high o config.counts.objects d, kept.roomy))
-            ∙ ap (λ (t : Bool). cond t cleared (content_of b o)) (both_true k (ap not (ne_eqb (kind_of config o) 4 f))))))
+            ∙ ap (λ (t : Bool). cond t cleared (content_of b o))
+            (both_true k (ap not (ne_eqb (kind_of config o) 4 f))))))
 
     activated : Quiet a → Activated config b (after a) (itself op a)
     activated quiet =
@@ -259,11 +261,13 @@ module _ {room : ℕ} (config : Config) (sound : Sound config) (op : Operation) 
         (entries config (hardcoded_of config (itself op a)))
         (λ e m.
         let q =
-        limited_entries formed a all-inactive (actor_exists_lem config op Activate a p.p11) together_in quiet some e m in
+        limited_entries formed a all-inactive (actor_exists_lem config op Activate a p.p11) together_in quiet some e
+        m in
         green-entry config (after a) (object_in (after a) o) e (q.3 ∙ sym with_device_lem) q.0 q.1)
       where
         with_device_lem : object_in (after a) o ≡ device_in (after a) (itself op a)
-        with_device_lem = together_in (itself op a) o (and_r (eqb (kind_of config o) 4) (owns config 2 (itself op a) o) w)
+        with_device_lem = together_in (itself op a) o
+            (and_r (eqb (kind_of config o) 4) (owns config 2 (itself op a) o) w)
 
         lives : object_in (after a) o ≡ 0 → ⊥
         lives = not_eqb (object_in (after a) o) 0 (and_r (descriptor config o) _ l)

@@ -27,7 +27,8 @@ use Rattle.model.proofs.Facts.{cond_true}
 right-object : (room : ℕ) (config : Config) (b : State) → well_formed room config b ≡ true → (n : ℕ) → 1 ≤ n → n ≤ room
     → right_object config b n ≡ true
 unfolding well_formed
-right-object room config b h n low high = every_at room (λ n. right_object config b n) (search (and_l, and_r)) n low high
+right-object room config b h n low high = every_at room (λ n. right_object config b n) (search (and_l, and_r)) n low
+    high
 
 -- an active object is in a partition that exists
 pub place_exists : (room : ℕ) (config : Config) → config.counts.objects ≤ room → (b : State)

@@ -88,7 +88,8 @@ pub record Line (room : ℕ) (config : Config) (b m : State) : Type 0 where
 module _ {room : ℕ} (config : Config) (b : State) (kept : Kept room config b) where
   -- the line then has what separation needs
   contents-kept : (cs : List (List ℕ)) → length cs ≡ room → All Sixteen cs
-      → ((n : ℕ) → descriptor config n ≡ true → nth cs n cleared ≡ content_of b n) → Kept room config (with_content b cs)
+      → ((n : ℕ) → descriptor config n ≡ true → nth cs n cleared ≡ content_of b n) → Kept room config
+      (with_content b cs)
   contents-kept cs size sixteen same =
       record {
         roomy = kept.roomy;

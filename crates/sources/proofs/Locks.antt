@@ -109,7 +109,8 @@ module _ (config : Config) (op : Operation) (b : State) (c : ℕ) (locked : lock
   out_after_lem Create a kept formed out = out
   out_after_lem Destroy a kept formed out = out
   out_after_lem Activate a kept formed out = locked_outside config (apply config op Activate a b) kept formed c locked
-  out_after_lem Deactivate a kept formed out = locked_outside config (apply config op Deactivate a b) kept formed c locked
+  out_after_lem Deactivate a kept formed out = locked_outside config (apply config op Deactivate a b) kept formed c
+      locked
   out_after_lem Lock a kept formed out = out
   out_after_lem Unlock a kept formed out = out
 

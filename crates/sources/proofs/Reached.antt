@@ -66,11 +66,13 @@ fresh-formed room config =
       statuses = refl;
       drivers = λ d l k. subst (λ (q : ℕ). cond (leb d config.counts.drivers)
           (eqb q 0 || (eqb (get_or (replicate partition_count 0) q 0) plain_status
-          || eqb (get_or (replicate partition_count 0) q 0) green_status)) (eqb q 0) ≡ true) (sym (nth-zeros most_drivers d))
+          || eqb (get_or (replicate partition_count 0) q 0) green_status)) (eqb q 0) ≡ true)
+          (sym (nth-zeros most_drivers d))
           (assigned_0 (leb d config.counts.drivers) refl);
       devices = λ c l k. subst (λ (q : ℕ). cond (leb c config.counts.devices)
           (eqb q 0 || (eqb (get_or (replicate partition_count 0) q 0) plain_status
-          || eqb (get_or (replicate partition_count 0) q 0) green_status)) (eqb q 0) ≡ true) (sym (nth-zeros most_devices c))
+          || eqb (get_or (replicate partition_count 0) q 0) green_status)) (eqb q 0) ≡ true)
+          (sym (nth-zeros most_devices c))
           (assigned_0 (leb c config.counts.devices) refl);
       locks = λ c l k. subst (λ (q : ℕ). eqb q 0
           || (eqb q 1 && leb c config.counts.devices && eqb (nth (replicate most_devices 0) c 0) 0) ≡ true)
@@ -114,7 +116,8 @@ fresh-formed room config =
     apart n e f = omega arith
 
     right : (n : ℕ) (s t u : Bool) → (t ≡ true → u ≡ true → ⊥)
-        → cond s ((not u || a_value config (cond (s && t) (value_bytes (hardcoded_of config (owner_of config n))) cleared))
+        → cond s ((not u || a_value config
+        (cond (s && t) (value_bytes (hardcoded_of config (owner_of config n))) cleared))
         && (not t || same_bytes (cond (s && t) (value_bytes (hardcoded_of config (owner_of config n))) cleared)
         (value_bytes (hardcoded_of config (owner_of config n)))))
         (same_bytes (cond (s && t) (value_bytes (hardcoded_of config (owner_of config n))) cleared) cleared) ≡ true

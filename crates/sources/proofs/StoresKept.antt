@@ -55,7 +55,8 @@ module _ {room : ℕ} (config : Config) (op : Operation) (b : State) (kept : Kep
   write_hardcoded : q13 config op Write ≡ true → (a : Actor) → Hardcoded config (apply config op Write a b)
   unfolding apply
   write_hardcoded h a n x k =
-      stores_hold (λ (c : List ℕ). c ≡ value_bytes (hardcoded_of config (owner_of config n))) (object_at op) (item_bytes op)
+      stores_hold (λ (c : List ℕ). c ≡ value_bytes (hardcoded_of config (owner_of config n))) (object_at op)
+      (item_bytes op)
       op.count b.content n cleared
       (kept.hardcoded n x k) (λ i l e. absurd (write_kind config op h i n l e k))
 

@@ -1,7 +1,8 @@
 -- Document 01, 'The questions': 'Asked in this order; the first no gives its number. 0 is accepted.' The questions of a
 -- file and those of a call, each as one list in the order in which they are asked; a request that adds a question adds
 -- a row.
-use Rattle.std.specs.Prelude.{ℕ, ◌≡◌, ◌↔◌, ◌⊎◌, List, [], ◌∷◌, ◌++◌, Bool, true, false, cond, ◌&&◌, length, ltb, leb, eqb}
+use Rattle.std.specs.Prelude.{ℕ, ◌≡◌, ◌↔◌, ◌⊎◌, List, [], ◌∷◌, ◌++◌, Bool}
+use Rattle.std.specs.Prelude.{true, false, cond, ◌&&◌, length, ltb, leb, eqb}
 use Rattle.model.specs.Base.{collect}
 use Rattle.model.specs.Number.{lead, formed}
 use Rattle.model.specs.ConfigFile.{paired, restrained, load}

@@ -196,7 +196,8 @@ module _ (housed : Bool) (named : List ℕ) (p home : ℕ) where
   unfolding at_home
   home_known e h = rw (eq-eqb p home e, h)
 
-  pub home_told : (r : Bool) → p ≡ home → housed ≡ false → r ≡ stands (get_or named p 0) → r ≡ at_home housed named p home
+  pub home_told : (r : Bool) → p ≡ home → housed ≡ false → r ≡ stands (get_or named p 0) → r ≡ at_home housed named p
+      home
   unfolding at_home
   home_told r e h t = rw (eq-eqb p home e, h) t
 

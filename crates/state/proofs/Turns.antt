@@ -44,7 +44,8 @@ use Rattle.state.proofs.Idle.{idle_rest, lesser_end}
 
 -- what an area shows after one change
 module _ (room : ℕ) (s t : List ℕ) where
-  pub after-driver : (d v : ℕ) → t ≡ layout (with_driver (view room s) d v) → view room t ≡ with_driver (view room s) d v
+  pub after-driver : (d v : ℕ) → t ≡ layout (with_driver (view room s) d v) → view room t ≡ with_driver (view room s)
+      d v
   unfolding with_driver
   after-driver d v e = ap (view room) e ∙ view-layout room _ (record {
     statuses = (view_shape room s).statuses;
@@ -56,7 +57,8 @@ module _ (room : ℕ) (s t : List ℕ) where
     locks = (view_shape room s).locks;
   })
 
-  pub after-device : (c v : ℕ) → t ≡ layout (with_device (view room s) c v) → view room t ≡ with_device (view room s) c v
+  pub after-device : (c v : ℕ) → t ≡ layout (with_device (view room s) c v) → view room t ≡ with_device (view room s)
+      c v
   unfolding with_device
   after-device c v e = ap (view room) e ∙ view-layout room _ (record {
     statuses = (view_shape room s).statuses;
@@ -68,7 +70,8 @@ module _ (room : ℕ) (s t : List ℕ) where
     locks = (view_shape room s).locks;
   })
 
-  pub after-object : (n v : ℕ) → t ≡ layout (with_object (view room s) n v) → view room t ≡ with_object (view room s) n v
+  pub after-object : (n v : ℕ) → t ≡ layout (with_object (view room s) n v) → view room t ≡ with_object (view room s)
+      n v
   unfolding with_object
   after-object n v e = ap (view room) e ∙ view-layout room _ (record {
     statuses = (view_shape room s).statuses;
@@ -237,7 +240,8 @@ module _ (config : Config) (room : ℕ) where
           (partly_get f i cs cleared (omega (arith, length-replicate room cleared)) ∙ cleared_at room i)
 
       go : (h : Bool) → fresh_content config (suc i) ≡ cond h v cleared
-          → cond h (with_content (fresh_to config room i) (suc i) v) (fresh_to config room i) ≡ fresh_to config room (suc i)
+          → cond h (with_content (fresh_to config room i) (suc i) v) (fresh_to config room i) ≡ fresh_to config room
+          (suc i)
       go true q =
           ap (Columns.with_content (fresh room config)) (ap (λ (c : List ℕ). set (partly f i cs) i c) (sym q) ∙ more)
       go false q =

@@ -116,7 +116,8 @@ module _ (s : List ℕ) (at : ℕ) where
       ext_get_or 0 (part s at content_bytes) (value_bytes v) (length_part s at content_bytes l) here in
       rw same (same_on (value_bytes v))
     where
-      here : (k : ℕ) → k < length (part s at content_bytes) → get_or (part s at content_bytes) k 0 ≡ get_or (value_bytes v) k 0
+      here : (k : ℕ) → k < length (part s at content_bytes) → get_or (part s at content_bytes) k 0 ≡ get_or
+          (value_bytes v) k 0
       here zero h = first ∙ e
       here (suc k) h =
           let q : suc k < content_bytes = omega (arith, length_part s at content_bytes l) in

@@ -1,7 +1,8 @@
 // What an area shows of partitions, drivers, devices and objects. A number that names nothing shows 0.
 ghost use Rattle.std.specs.Prelude.{◌≡◌, ◌≤◌, length, eqb};
 ghost use Rattle.model.specs.Number.{most_number};
-ghost use Rattle.model.specs.State.{status_of, stands, existing, green, driver_in, device_in, object_in, content_of, held};
+ghost use Rattle.model.specs.State.{status_of, stands, existing, green};
+ghost use Rattle.model.specs.State.{driver_in, device_in, object_in, content_of, held};
 ghost use Rattle.model.specs.State.{lock_of, area_length, view};
 
 use crate::bytes::load;

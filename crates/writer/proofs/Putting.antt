@@ -11,7 +11,8 @@ use lib.Dec.{leb}
 use borrow.Author.Tests.{le-leb, lt-leb, leb-true}
 use Rattle.model.specs.Number.{most_bytes, bytes_of}
 use Rattle.model.specs.Base.{all}
-use Rattle.model.specs.Config.{most_entries, most_edition, serial_edition, most_serial, entry_place, hardcoded_of, serial_of}
+use Rattle.model.specs.Config.{most_entries, most_edition, serial_edition, most_serial}
+use Rattle.model.specs.Config.{entry_place, hardcoded_of, serial_of}
 use Rattle.model.specs.ConfigFile.{done, field, absent, counts_row}
 use Rattle.model.specs.ConfigWrite.{
   rows_from,
@@ -215,7 +216,8 @@ module _ (config : Config) where
       let g = entry_rows config.counts config.objects.kind config.values v in
       let e : rows_bytes (rows_from g n 0) ≡ rows_from (entry_bytes_of config.values.entries v) n 0 =
       rows-bytes g n 0
-      ∙ rows_same (λ j. rows_bytes (g j)) (entry_bytes_of config.values.entries v) n 0 (λ j low high. entry_row_lem v j) in
+      ∙ rows_same (λ j. rows_bytes (g j)) (entry_bytes_of config.values.entries v) n 0
+      (λ j low high. entry_row_lem v j) in
       let f = append-nil (bytes_of n) in
       λ x. f x ++ e x
 

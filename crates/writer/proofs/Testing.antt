@@ -87,7 +87,8 @@ unfolding is_object is_owner object_right in_row
 object-same counts kind class owner o =
     rw (least (get_or class o 0))
     (go (leb 1 (get_or kind o 0) && leb (get_or kind o 0) most_kind) (leb (get_or class o 0) most_class)
-    (leb (owner_least (get_or class o 0)) (get_or owner o 0) && leb (get_or owner o 0) (owner_most counts (get_or class o 0))))
+    (leb (owner_least (get_or class o 0)) (get_or owner o 0) && leb (get_or owner o 0)
+    (owner_most counts (get_or class o 0))))
   where
     go : (a b c : Bool) → a && b && c ≡ a && (b && (c && true))
     go true true c = sym (and-true c)
@@ -153,11 +154,13 @@ module _ (counts : Counts) (kinds : List ℕ) (o mode w : ℕ) where
 
 -- an entry at its place in the table
 pub entry_at : (counts : Counts) (kinds entries : List ℕ) (v j e : ℕ) {b : Bool} → e ≡ entry_place v j
-    → b ≡ in_row (entry_row counts kinds) (get_or entries e 0 ∷ get_or entries (e + 1) 0 ∷ get_or entries (e + 2) 0 ∷ [])
+    → b ≡ in_row (entry_row counts kinds)
+    (get_or entries e 0 ∷ get_or entries (e + 1) 0 ∷ get_or entries (e + 2) 0 ∷ [])
     → entry_right counts kinds entries v j ≡ b
 unfolding entry_right
 entry_at counts kinds entries v j e z h = sym (h ∙ ap
-    (λ (x : ℕ). in_row (entry_row counts kinds) (get_or entries x 0 ∷ get_or entries (x + 1) 0 ∷ get_or entries (x + 2) 0 ∷ []))
+    (λ (x : ℕ). in_row (entry_row counts kinds)
+    (get_or entries x 0 ∷ get_or entries (x + 1) 0 ∷ get_or entries (x + 2) 0 ∷ []))
     z)
 
 -- a value, by its ways out
@@ -167,7 +170,8 @@ module _ (counts : Counts) (kinds count entries : List ℕ) (v : ℕ) where
   value_full h = rw (lt-leb (get_or count v 0) most_entries h)
 
   pub value-rest : {b : Bool} → get_or count v 0 ≤ most_entries
-      → b ≡ every_to (get_or count v 0) (entry_right counts kinds entries v) → b ≡ value_right counts kinds count entries v
+      → b ≡ every_to (get_or count v 0) (entry_right counts kinds entries v) → b ≡ value_right counts kinds count
+      entries v
   unfolding value_right
   value-rest h e = rw (le-leb (get_or count v 0) most_entries h) e
 

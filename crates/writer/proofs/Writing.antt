@@ -7,7 +7,8 @@ use native.Mathlib.Omega.{arith}
 use lib.ListN.{length, drop}
 use Rattle.model.specs.ConfigFile.{load}
 use Rattle.model.specs.ConfigWrite.{file_of, in_ranges, write_question, write_answer, write_area}
-use Rattle.model.specs.Rewriting.{kind_unit, refused_kind, short_kind, number_of_answer, coded, rewrite_answer, rewrite_area}
+use Rattle.model.specs.Rewriting.{kind_unit, refused_kind, short_kind, number_of_answer}
+use Rattle.model.specs.Rewriting.{coded, rewrite_answer, rewrite_area}
 use Rattle.model.specs.declared.Config.{Config}
 use Rattle.model.specs.declared.Loaded.{Loaded}
 use Rattle.model.specs.declared.Written.{Written}

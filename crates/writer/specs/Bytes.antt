@@ -31,7 +31,8 @@ device_bytes edition hardcoded serial c = with_serial edition (get_or hardcoded 
 -- entry j, from 1, of value v
 unfoldable pub entry_bytes_of : List ℕ → ℕ → ℕ → List ℕ
 entry_bytes_of entries v j =
-    three (get_or entries (entry_place v j) 0) (get_or entries (entry_place v j + 1) 0) (get_or entries (entry_place v j + 2) 0)
+    three (get_or entries (entry_place v j) 0) (get_or entries (entry_place v j + 1) 0)
+    (get_or entries (entry_place v j + 2) 0)
 
 -- value v: its entry count, and then its entries
 unfoldable pub value_bytes : List ℕ → List ℕ → ℕ → List ℕ

@@ -21,7 +21,8 @@ device_right most top hardcoded serial c = leb (get_or hardcoded c 0) most && le
 unfoldable pub entry_right : Counts → List ℕ → List ℕ → ℕ → ℕ → Bool
 entry_right counts kinds entries v j =
     in_row (entry_row counts kinds)
-    (get_or entries (entry_place v j) 0 ∷ get_or entries (entry_place v j + 1) 0 ∷ get_or entries (entry_place v j + 2) 0 ∷ [])
+    (get_or entries (entry_place v j) 0 ∷ get_or entries (entry_place v j + 1) 0 ∷ get_or entries
+    (entry_place v j + 2) 0 ∷ [])
 
 unfoldable pub value_right : Counts → List ℕ → List ℕ → List ℕ → ℕ → Bool
 value_right counts kinds count entries v =

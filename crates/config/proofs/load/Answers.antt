@@ -79,7 +79,8 @@ returns-then-no-ne0 c =
     c.read_values-r.ensures c.in-At-r.is
     (Readers.not_sound _ _ _
     (Readers.all_read _ _ _ c.if-end-file.false
-    (c.is_paired-paired.ensures ∙ Questions.paired_same _) (c.is_restrained-restrained.ensures ∙ Questions.restrained-same _)
+    (c.is_paired-paired.ensures ∙ Questions.paired_same _)
+    (c.is_restrained-restrained.ensures ∙ Questions.restrained-same _)
     c.first_no-no.ensures)
     c.if-no-ne0.true c.refuse-then-no-ne0.ensures)
 
@@ -92,6 +93,7 @@ returns c =
     c.read_values-r.ensures c.in-At-r.is
     (Readers.accepts _ _ _
     (Readers.all_read _ _ _ c.if-end-file.false
-    (c.is_paired-paired.ensures ∙ Questions.paired_same _) (c.is_restrained-restrained.ensures ∙ Questions.restrained-same _)
+    (c.is_paired-paired.ensures ∙ Questions.paired_same _)
+    (c.is_restrained-restrained.ensures ∙ Questions.restrained-same _)
     c.first_no-no.ensures)
     c.if-no-ne0.false c.accept.ensures)

@@ -20,7 +20,8 @@ use Rattle.effect.proofs.Effects.{
 use borrow.Author.Rules.{rules}
 use native.Mathlib.Omega.{arith}
 use Rattle.effect.proofs.carry_out.Goals as goal
-use Rattle.effect.proofs.carry_out.Goals.{in_default-via-then-code-lt1, in_default-via-else-code-lt1+else-code-lt3+else-code-lt5}
+use Rattle.effect.proofs.carry_out.Goals.{in_default-via-then-code-lt1}
+use Rattle.effect.proofs.carry_out.Goals.{in_default-via-else-code-lt1+else-code-lt3+else-code-lt5}
 
 pub activate_driver-requires : goal.activate_driver-requires
 activate_driver-requires c =
@@ -77,7 +78,8 @@ returns-in-11 c =
 
 pub returns-in-14 : goal.returns-in-14
 returns-in-14 c =
-    let (f0, f1) = did_lock _ _ _ _ _ _ c.in-14.is c.lock_device.ensures in record { area_after = f0; answer_after = f1 }
+    let (f0, f1) = did_lock _ _ _ _ _ _ c.in-14.is c.lock_device.ensures in record
+    { area_after = f0; answer_after = f1 }
 
 pub returns-in-15 : goal.returns-in-15
 returns-in-15 c =
@@ -86,18 +88,22 @@ returns-in-15 c =
 
 pub returns-in-1-to-2 : goal.returns-in-1-to-2
 returns-in-1-to-2 c =
-    let (f0, f1) = did_write _ _ _ _ _ _ (omega arith) c.write_items.ensures in record { area_after = f0; answer_after = f1 }
+    let (f0, f1) = did_write _ _ _ _ _ _ (omega arith) c.write_items.ensures in record
+    { area_after = f0; answer_after = f1 }
 
 pub returns-in-3-to-4 : goal.returns-in-3-to-4
 returns-in-3-to-4 c =
     let (f0, f1) = did_copy _ _ _ _ _ _ _ (omega arith) (omega arith)
-    c.copy_contents.ensures.area_after c.copy_contents.ensures.answer_after in record { area_after = f0; answer_after = f1 }
+    c.copy_contents.ensures.area_after c.copy_contents.ensures.answer_after in record
+    { area_after = f0; answer_after = f1 }
 
 pub returns-in_default : goal.returns-in_default
 returns-in_default c =
-    let r = c.in_default-1.rest in let q = c.requires in let n = r.0.0 in let (f0, f1) = did_deactivate_external _ _ _ _ _ _
-    (elim c.in_default.branch
-    [ in_default-via-then-code-lt1 w ↦ inl (omega arith)
-    | in_default-via-else-code-lt1+else-code-lt3+else-code-lt5 w ↦ inr (omega arith) ])
+    let r = c.in_default-1.rest in let q = c.requires in let n = r.0.0 in let (f0, f1) = did_deactivate_external _ _
+    _ _ _ _
+    (elim c.in_default.branch [
+      | in_default-via-then-code-lt1 w ↦ inl (omega arith)
+      | in_default-via-else-code-lt1+else-code-lt3+else-code-lt5 w ↦ inr (omega arith)
+    ])
     q.first q.last n.0.0.0.0.0.0.1 n.0.0.0.0.0.1 n.0.0.0.0.1 n.0.0.0.1
     n.0.0.1 n.0.1 n.1 r.0.1 r.1 c.deactivate_external.ensures in record { area_after = f0; answer_after = f1 }

@@ -10,12 +10,14 @@ returns-then-line-gt-MOST_FILE c =
 
 pub returns-then-session-gt-MOST_SESSION : goal.returns-then-session-gt-MOST_SESSION
 returns-then-session-gt-MOST_SESSION c =
-    Reporting.long-session c.args.line.now c.args.session.now c.args.out.now c.if-line-gt-MOST_FILE.false c.if-session-gt-MOST_SESSION.true c.put_long-then-session-gt-MOST_SESSION.ensures
+    Reporting.long-session c.args.line.now c.args.session.now c.args.out.now c.if-line-gt-MOST_FILE.false
+    c.if-session-gt-MOST_SESSION.true c.put_long-then-session-gt-MOST_SESSION.ensures
 
 pub returns-then-refusal-ne0 : goal.returns-then-refusal-ne0
 returns-then-refusal-ne0 c =
     Reporting.refused c.args.line.now c.args.session.now
-    c.args.out.now c.if-line-gt-MOST_FILE.false c.if-session-gt-MOST_SESSION.false _ c.gate_load_check-refusal.ensures c.if-refusal-ne0.true c.put_line.ensures
+    c.args.out.now c.if-line-gt-MOST_FILE.false c.if-session-gt-MOST_SESSION.false _
+    c.gate_load_check-refusal.ensures c.if-refusal-ne0.true c.put_line.ensures
 
 pub put_session-requires : goal.put_session-requires
 put_session-requires c =
@@ -24,4 +26,5 @@ put_session-requires c =
 pub returns : goal.returns
 returns c =
     Reporting.accepted c.args.line.now c.args.session.now
-    c.args.out.now c.if-line-gt-MOST_FILE.false c.if-session-gt-MOST_SESSION.false _ c.gate_load_check-refusal.ensures c.if-refusal-ne0.false c.put_session.ensures
+    c.args.out.now c.if-line-gt-MOST_FILE.false c.if-session-gt-MOST_SESSION.false _
+    c.gate_load_check-refusal.ensures c.if-refusal-ne0.false c.put_session.ensures

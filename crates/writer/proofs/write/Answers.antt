@@ -4,7 +4,8 @@ use borrow.Author.Rules.{rules}
 use Rattle.writer.proofs.write.Goals as goal
 
 pub returns-then-q-ne0 : goal.returns-then-q-ne0
-returns-then-q-ne0 c = let (f0, f1) = Writing.refused c.args.config _ _ c.write_question-q.ensures c.if-q-ne0.true in record { value = f0; area_after = f1 }
+returns-then-q-ne0 c = let (f0, f1) = Writing.refused c.args.config _ _ c.write_question-q.ensures c.if-q-ne0.true in
+    record { value = f0; area_after = f1 }
 
 pub put_file-n-requires : goal.put_file-n-requires
 put_file-n-requires c =

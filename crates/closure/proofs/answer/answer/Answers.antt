@@ -45,10 +45,14 @@ settle-stop-requires-clause-done_len c = let b = c.begin-todo.ensures in refl
 pub returns-then-stop-eq0 : goal.returns-then-stop-eq0
 returns-then-stop-eq0 c =
     let b = c.begin-todo.ensures in
-    λ d bad f. answers_none (scene c.args.counts c.args.kind.now c.args.class.now c.args.owner.now c.args.count.now c.args.entries.now
+    λ d bad f. answers_none (scene c.args.counts c.args.kind.now c.args.class.now c.args.owner.now c.args.count.now
+    c.args.entries.now
     (view c.args.room c.args.area.now) d) _ c.args.fine.now bad c.requires.values_ok f
-    (c.settle-stop.ensures.ended (scene c.args.counts c.args.kind.now c.args.class.now c.args.owner.now c.args.count.now c.args.entries.now
-    (view c.args.room c.args.area.now) d) (going_start (scene c.args.counts c.args.kind.now c.args.class.now c.args.owner.now c.args.count.now c.args.entries.now
+    (c.settle-stop.ensures.ended (scene c.args.counts c.args.kind.now c.args.class.now c.args.owner.now
+    c.args.count.now c.args.entries.now
+    (view c.args.room c.args.area.now) d)
+    (going_start (scene c.args.counts c.args.kind.now c.args.class.now c.args.owner.now c.args.count.now
+    c.args.entries.now
     (view c.args.room c.args.area.now) d) c.args.fine.now _ _ _ value_slots
     (b.seeded (scene c.args.counts c.args.kind.now c.args.class.now c.args.owner.now c.args.count.now c.args.entries.now
     (view c.args.room c.args.area.now) d))) c.if-stop-eq0.true)
@@ -57,11 +61,15 @@ pub returns : goal.returns
 returns c =
     let b = c.begin-todo.ensures in
     let s = c.settle-stop in
-    λ d bad f. answers_find (scene c.args.counts c.args.kind.now c.args.class.now c.args.owner.now c.args.count.now c.args.entries.now
+    λ d bad f. answers_find (scene c.args.counts c.args.kind.now c.args.class.now c.args.owner.now c.args.count.now
+    c.args.entries.now
     (view c.args.room c.args.area.now) d) _ c.args.fine.now bad c.requires.values_ok f s.result.strange
     s.result.value c.find.result c.find.ensures
-    (s.ensures.suspected (scene c.args.counts c.args.kind.now c.args.class.now c.args.owner.now c.args.count.now c.args.entries.now
-    (view c.args.room c.args.area.now) d) (going_start (scene c.args.counts c.args.kind.now c.args.class.now c.args.owner.now c.args.count.now c.args.entries.now
+    (s.ensures.suspected (scene c.args.counts c.args.kind.now c.args.class.now c.args.owner.now c.args.count.now
+    c.args.entries.now
+    (view c.args.room c.args.area.now) d)
+    (going_start (scene c.args.counts c.args.kind.now c.args.class.now c.args.owner.now c.args.count.now
+    c.args.entries.now
     (view c.args.room c.args.area.now) d) c.args.fine.now _ _ _ value_slots
     (b.seeded (scene c.args.counts c.args.kind.now c.args.class.now c.args.owner.now c.args.count.now c.args.entries.now
     (view c.args.room c.args.area.now) d))))

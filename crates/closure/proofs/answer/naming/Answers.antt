@@ -8,14 +8,17 @@ use Rattle.closure.proofs.Answering.{naming-answer, naming-entry}
 use borrow.Author.Rules.{rules}
 use Rattle.closure.proofs.answer.naming.Goals as goal
 
-pub all_unconcerned-fine-requires-clause-objects_le_most_objects : goal.all_unconcerned-fine-requires-clause-objects_le_most_objects
+pub all_unconcerned-fine-requires-clause-objects_le_most_objects :
+    goal.all_unconcerned-fine-requires-clause-objects_le_most_objects
 all_unconcerned-fine-requires-clause-objects_le_most_objects c = c.requires.values_ok.few-objects
 
-pub all_unconcerned-fine-requires-clause-devices_le_most_devices : goal.all_unconcerned-fine-requires-clause-devices_le_most_devices
+pub all_unconcerned-fine-requires-clause-devices_le_most_devices :
+    goal.all_unconcerned-fine-requires-clause-devices_le_most_devices
 all_unconcerned-fine-requires-clause-devices_le_most_devices c = c.requires.values_ok.few-devices
 
 pub returns-clause-result_value : goal.returns-clause-result_value
-returns-clause-result_value c = let s : Devices → Config = λ d. search_config d c.args.counts c.args.kind.now c.args.class.now
+returns-clause-result_value c = let s : Devices → Config = λ d. search_config d c.args.counts c.args.kind.now
+    c.args.class.now
     c.args.owner.now c.args.count.now c.args.entries.now in
     let b = view c.args.room c.args.area.now in
     let t = c.args.concerned.now in λ d. naming-answer (s d) b t c.args.but c.answer.result

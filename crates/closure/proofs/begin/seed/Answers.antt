@@ -17,7 +17,8 @@ nobody x readers todo z =
     (gave_nobody _ readers todo)
 
 pub returns-then-kind-ne-HARDCODED_KIND : goal.returns-then-kind-ne-HARDCODED_KIND
-returns-then-kind-ne-HARDCODED_KIND c = nobody c.args.x c.args.readers.now c.args.todo (c.requires.most_devices_value c.if-kind-ne-HARDCODED_KIND.true)
+returns-then-kind-ne-HARDCODED_KIND c = nobody c.args.x c.args.readers.now c.args.todo
+    (c.requires.most_devices_value c.if-kind-ne-HARDCODED_KIND.true)
 
 pub returns-then-r-eq0 : goal.returns-then-r-eq0
 returns-then-r-eq0 c = nobody c.args.x c.args.readers.now c.args.todo c.if-r-eq0.true

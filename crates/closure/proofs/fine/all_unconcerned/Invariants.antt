@@ -13,7 +13,8 @@ use Rattle.closure.proofs.fine.all_unconcerned.Given as goal
 abbrev pub invariant-loop-o : goal.invariant-loop-o
 invariant-loop-o l =
     (1 ≤ l.o) × (l.o ≤ l.last + 1) × (length l.f ≡ object_slots)
-    × ((d : ℕ) → d ≤ most_devices → (j : ℕ) → 1 ≤ j → j < l.o → FineWord (naming l.concerned l.but) d j (get_or l.f j 0))
+    × ((d : ℕ) → d ≤ most_devices → (j : ℕ) → 1 ≤ j → j < l.o → FineWord (naming l.concerned l.but) d j
+    (get_or l.f j 0))
 
 abbrev pub decreases-loop-o : goal.decreases-loop-o
 decreases-loop-o l = l.last + 1 - l.o

@@ -27,27 +27,57 @@ at_entry {entries = entries} v j at ok few e in_value =
 
 pub overflow_cast-most : goal.overflow_cast-most
 overflow_cast-most c =
-    omega (arith, c.requires.values_ok.few-values, c.requires.values_ok.few-entries c.args.v c.requires.v_le_values, c.requires.v_le_values)
+    omega (
+      arith,
+      c.requires.values_ok.few-values,
+      c.requires.values_ok.few-entries c.args.v c.requires.v_le_values,
+      c.requires.v_le_values,
+    )
 
 pub overflow_mul-first : goal.overflow_mul-first
 overflow_mul-first c =
-    omega (arith, c.requires.values_ok.few-values, c.requires.values_ok.few-entries c.args.v c.requires.v_le_values, c.requires.v_le_values)
+    omega (
+      arith,
+      c.requires.values_ok.few-values,
+      c.requires.values_ok.few-entries c.args.v c.requires.v_le_values,
+      c.requires.v_le_values,
+    )
 
 pub overflow_add-first : goal.overflow_add-first
 overflow_add-first c =
-    omega (arith, c.requires.values_ok.few-values, c.requires.values_ok.few-entries c.args.v c.requires.v_le_values, c.requires.v_le_values)
+    omega (
+      arith,
+      c.requires.values_ok.few-values,
+      c.requires.values_ok.few-entries c.args.v c.requires.v_le_values,
+      c.requires.v_le_values,
+    )
 
 pub overflow_mul-first-2 : goal.overflow_mul-first-2
 overflow_mul-first-2 c =
-    omega (arith, c.requires.values_ok.few-values, c.requires.values_ok.few-entries c.args.v c.requires.v_le_values, c.requires.v_le_values)
+    omega (
+      arith,
+      c.requires.values_ok.few-values,
+      c.requires.values_ok.few-entries c.args.v c.requires.v_le_values,
+      c.requires.v_le_values,
+    )
 
 pub overflow_mul-end : goal.overflow_mul-end
 overflow_mul-end c =
-    omega (arith, c.requires.values_ok.few-values, c.requires.values_ok.few-entries c.args.v c.requires.v_le_values, c.requires.v_le_values)
+    omega (
+      arith,
+      c.requires.values_ok.few-values,
+      c.requires.values_ok.few-entries c.args.v c.requires.v_le_values,
+      c.requires.v_le_values,
+    )
 
 pub overflow_add-end : goal.overflow_add-end
 overflow_add-end c =
-    omega (arith, c.requires.values_ok.few-values, c.requires.values_ok.few-entries c.args.v c.requires.v_le_values, c.requires.v_le_values)
+    omega (
+      arith,
+      c.requires.values_ok.few-values,
+      c.requires.values_ok.few-entries c.args.v c.requires.v_le_values,
+      c.requires.v_le_values,
+    )
 
 pub loop-at-init : goal.loop-at-init
 loop-at-init c = (
@@ -65,7 +95,8 @@ loop-at-init c = (
 )
 
 pub strange_at-s-requires : goal.strange_at-s-requires
-strange_at-s-requires c = at_entry c.args.v c.loop-at.invariant.0 c.loop-at.at c.requires.values_ok c.requires.v_le_values c.loop-at.invariant.1
+strange_at-s-requires c = at_entry c.args.v c.loop-at.invariant.0 c.loop-at.at c.requires.values_ok
+    c.requires.v_le_values c.loop-at.invariant.1
     (record { low = c.loop-at.invariant.2; high = omega (arith, c.loop-at.invariant.1) })
 
 pub returns-then-s-ne0-clause-grew : goal.returns-then-s-ne0-clause-grew
@@ -96,7 +127,8 @@ returns-then-s-ne0-clause-strange_in c = let b = c.loop-at in
     )
 
 pub apply_entry-d-requires-clause-entry_ok : goal.apply_entry-d-requires-clause-entry_ok
-apply_entry-d-requires-clause-entry_ok c = let b = c.loop-at in at_entry c.args.v c.loop-at.invariant.0 c.loop-at.at c.requires.values_ok c.requires.v_le_values c.loop-at.invariant.1
+apply_entry-d-requires-clause-entry_ok c = let b = c.loop-at in at_entry c.args.v c.loop-at.invariant.0 c.loop-at.at
+    c.requires.values_ok c.requires.v_le_values c.loop-at.invariant.1
     (record { low = c.loop-at.invariant.2; high = omega (arith, c.loop-at.invariant.1) })
 
 pub apply_entry-d-requires-clause-known_len : goal.apply_entry-d-requires-clause-known_len
@@ -109,8 +141,12 @@ pub apply_entry-d-requires-clause-low : goal.apply_entry-d-requires-clause-low
 apply_entry-d-requires-clause-low c = let b = c.loop-at in c.requires.low
 
 pub overflow_add-at : goal.overflow_add-at
-overflow_add-at c = omega (arith, (at_entry c.args.v c.loop-at.invariant.0 c.loop-at.at c.requires.values_ok c.requires.v_le_values c.loop-at.invariant.1
-    (record { low = c.loop-at.invariant.2; high = omega (arith, c.loop-at.invariant.1) })).place)
+overflow_add-at c = omega (
+  arith,
+  (at_entry c.args.v c.loop-at.invariant.0 c.loop-at.at c.requires.values_ok c.requires.v_le_values
+      c.loop-at.invariant.1
+      (record { low = c.loop-at.invariant.2; high = omega (arith, c.loop-at.invariant.1) })).place,
+)
 
 pub loop-at-smaller : goal.loop-at-smaller
 loop-at-smaller c = omega arith
@@ -119,7 +155,8 @@ pub loop-at-preserved : goal.loop-at-preserved
 loop-at-preserved c =
     let b = c.loop-at in
     let j = b.invariant.0 in
-    let i : In (get_or c.args.count.now c.args.v 0) c.loop-at.invariant.0 = (record { low = c.loop-at.invariant.2; high = omega (arith, c.loop-at.invariant.1) }) in
+    let i : In (get_or c.args.count.now c.args.v 0) c.loop-at.invariant.0 =
+    (record { low = c.loop-at.invariant.2; high = omega (arith, c.loop-at.invariant.1) }) in
     let e = c.apply_entry-d.ensures in
     let f = followed_at c.args.entries.now b.at (entry_place c.args.v j) b.invariant.1 e.followed in
     let some = some_bit 64 c.args.r c.requires.fact (omega arith) in
@@ -149,16 +186,20 @@ returns-clause-grew c = let b = c.loop-at in
 
 pub returns-clause-sound : goal.returns-clause-sound
 returns-clause-sound c = let b = c.loop-at in
-    let end : get_or c.args.count.now c.args.v 0 < b.invariant.0 = omega (arith, b.invariant.1) in λ m. b.invariant.7 m c.args.counts c.requires.values_ok c.requires.v_le_values
+    let end : get_or c.args.count.now c.args.v 0 < b.invariant.0 = omega (arith, b.invariant.1) in λ m. b.invariant.7
+    m c.args.counts c.requires.values_ok c.requires.v_le_values
 
 pub returns-clause-entries_in : goal.returns-clause-entries_in
 returns-clause-entries_in c = let b = c.loop-at in
-    let end : get_or c.args.count.now c.args.v 0 < b.invariant.0 = omega (arith, b.invariant.1) in λ z m i l h. b.invariant.8 m c.args.counts i l (omega (arith, end))
+    let end : get_or c.args.count.now c.args.v 0 < b.invariant.0 = omega (arith, b.invariant.1) in λ z m i l h.
+    b.invariant.8 m c.args.counts i l (omega (arith, end))
 
 pub returns-clause-no_strange : goal.returns-clause-no_strange
 returns-clause-no_strange c = let b = c.loop-at in
-    let end : get_or c.args.count.now c.args.v 0 < b.invariant.0 = omega (arith, b.invariant.1) in λ z i n l h. b.invariant.9 i n l (omega (arith, end))
+    let end : get_or c.args.count.now c.args.v 0 < b.invariant.0 = omega (arith, b.invariant.1) in λ z i n l h.
+    b.invariant.9 i n l (omega (arith, end))
 
 pub returns-clause-strange_in : goal.returns-clause-strange_in
 returns-clause-strange_in c = let b = c.loop-at in
-    let end : get_or c.args.count.now c.args.v 0 < b.invariant.0 = omega (arith, b.invariant.1) in λ n e. absurd (bit_zero n e)
+    let end : get_or c.args.count.now c.args.v 0 < b.invariant.0 = omega (arith, b.invariant.1) in λ n e. absurd
+    (bit_zero n e)

@@ -23,7 +23,8 @@ invariant-loop-at l =
     × (length l.readers ≡ value_slots) × Grew l.initial.known l.known l.initial.readers l.readers l.todo l.d
     × ((m : Scene) (n : Counts) → ValuesOk n l.count l.entries → l.v ≤ n.values → Each
     (following m n l.kind l.count l.entries true) l.r l.v
-    → Sound (following m n l.kind l.count l.entries true) l.initial.known → Sound (following m n l.kind l.count l.entries true) l.known)
+    → Sound (following m n l.kind l.count l.entries true) l.initial.known → Sound
+    (following m n l.kind l.count l.entries true) l.known)
     × ((m : Scene) (n : Counts) → EntriesIn (following m n l.kind l.count l.entries true) l.known l.r l.v j)
     × NoStrange l.entries l.fine l.r l.v j
 

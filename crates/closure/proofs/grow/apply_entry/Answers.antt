@@ -44,7 +44,8 @@ pub returns-then-k-eq-HARDCODED_KIND-clause-grew : goal.returns-then-k-eq-HARDCO
 returns-then-k-eq-HARDCODED_KIND-clause-grew c = let f = c.admit.ensures in f.grew
 
 pub returns-then-k-eq-HARDCODED_KIND-clause-followed : goal.returns-then-k-eq-HARDCODED_KIND-clause-followed
-returns-then-k-eq-HARDCODED_KIND-clause-followed c = let f = c.admit.ensures in followed_hardcoded c.args.kind.now (entry_at c.args.entries.now c.args.at) c.args.r
+returns-then-k-eq-HARDCODED_KIND-clause-followed c = let f = c.admit.ensures in followed_hardcoded c.args.kind.now
+    (entry_at c.args.entries.now c.args.at) c.args.r
     c.if-k-eq-TRANSFER_KIND.false c.if-k-eq-HARDCODED_KIND.true
     c.is_reading-then-k-eq-HARDCODED_KIND.ensures f.added
 

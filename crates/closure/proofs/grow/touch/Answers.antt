@@ -110,7 +110,8 @@ returns-clause-known_len_2 c = let w = c.without-r in
     let e = t.ensures in
     let y = c.join in
     let few : c.args.v < length c.args.done.now = omega
-    (arith, c.requires.values_ok.few-values, c.requires.done_len, c.requires.v_le_values) in e.grew.known_long ∙ c.requires.known_len
+    (arith, c.requires.values_ok.few-values, c.requires.done_len, c.requires.v_le_values) in e.grew.known_long ∙
+    c.requires.known_len
 
 pub returns-clause-readers_len_2 : goal.returns-clause-readers_len_2
 returns-clause-readers_len_2 c = let w = c.without-r in
@@ -119,7 +120,8 @@ returns-clause-readers_len_2 c = let w = c.without-r in
     let e = t.ensures in
     let y = c.join in
     let few : c.args.v < length c.args.done.now = omega
-    (arith, c.requires.values_ok.few-values, c.requires.done_len, c.requires.v_le_values) in e.grew.long ∙ c.requires.readers_len
+    (arith, c.requires.values_ok.few-values, c.requires.done_len, c.requires.v_le_values) in e.grew.long ∙
+    c.requires.readers_len
 
 pub returns-clause-done_len_2 : goal.returns-clause-done_len_2
 returns-clause-done_len_2 c = let w = c.without-r in
@@ -128,7 +130,8 @@ returns-clause-done_len_2 c = let w = c.without-r in
     let e = t.ensures in
     let y = c.join in
     let few : c.args.v < length c.args.done.now = omega
-    (arith, c.requires.values_ok.few-values, c.requires.done_len, c.requires.v_le_values) in length-set c.args.done.now c.args.v _ ∙ c.requires.done_len
+    (arith, c.requires.values_ok.few-values, c.requires.done_len, c.requires.v_le_values) in length-set
+    c.args.done.now c.args.v _ ∙ c.requires.done_len
 
 pub returns-clause-going : goal.returns-clause-going
 returns-clause-going c = let w = c.without-r in
@@ -137,7 +140,8 @@ returns-clause-going c = let w = c.without-r in
     let e = t.ensures in
     let y = c.join in
     let few : c.args.v < length c.args.done.now = omega
-    (arith, c.requires.values_ok.few-values, c.requires.done_len, c.requires.v_le_values) in λ m g z. going_some (following m c.args.counts c.args.kind.now c.args.count.now
+    (arith, c.requires.values_ok.few-values, c.requires.done_len, c.requires.v_le_values) in λ m g z. going_some
+    (following m c.args.counts c.args.kind.now c.args.count.now
     c.args.entries.now true) c.args.fine.now c.args.known.now c.args.readers.now
     c.args.done.now c.args.todo l.result w.result c.args.v g l.ensures
     w.ensures _ _ _
@@ -155,7 +159,8 @@ returns-clause-suspected c = let w = c.without-r in
     let e = t.ensures in
     let y = c.join in
     let few : c.args.v < length c.args.done.now = omega
-    (arith, c.requires.values_ok.few-values, c.requires.done_len, c.requires.v_le_values) in λ m g n b. absurd (bit_zero n (subst (λ (x : ℕ). bit x n ≡ 1) c.if-t-ne0.false b))
+    (arith, c.requires.values_ok.few-values, c.requires.done_len, c.requires.v_le_values) in λ m g n b. absurd
+    (bit_zero n (subst (λ (x : ℕ). bit x n ≡ 1) c.if-t-ne0.false b))
 
 pub returns-clause-todo_bound : goal.returns-clause-todo_bound
 returns-clause-todo_bound c = let w = c.without-r in

@@ -37,32 +37,53 @@ pub loop-j-init : goal.loop-j-init
 loop-j-init c = (omega arith, omega arith, λ n h l. absurd (omega arith))
 
 pub overflow_mul-n : goal.overflow_mul-n
-overflow_mul-n c = omega (arith, (entry_ok_lem c.requires.values_ok c.args.v c.loop-j.j c.requires.v_le_values
-    (record { low = c.loop-j.invariant.0; high = omega (arith, c.listed-most.ensures.few) })).place)
+overflow_mul-n c = omega (
+  arith,
+  (entry_ok_lem c.requires.values_ok c.args.v c.loop-j.j c.requires.v_le_values
+      (record { low = c.loop-j.invariant.0; high = omega (arith, c.listed-most.ensures.few) })).place,
+)
 
 pub overflow_add-n : goal.overflow_add-n
-overflow_add-n c = omega (arith, (entry_ok_lem c.requires.values_ok c.args.v c.loop-j.j c.requires.v_le_values
-    (record { low = c.loop-j.invariant.0; high = omega (arith, c.listed-most.ensures.few) })).place)
+overflow_add-n c = omega (
+  arith,
+  (entry_ok_lem c.requires.values_ok c.args.v c.loop-j.j c.requires.v_le_values
+      (record { low = c.loop-j.invariant.0; high = omega (arith, c.listed-most.ensures.few) })).place,
+)
 
 pub overflow_mul-n-in-loop-j : goal.overflow_mul-n-in-loop-j
-overflow_mul-n-in-loop-j c = omega (arith, (entry_ok_lem c.requires.values_ok c.args.v c.loop-j.j c.requires.v_le_values
-    (record { low = c.loop-j.invariant.0; high = omega (arith, c.listed-most.ensures.few) })).place)
+overflow_mul-n-in-loop-j c = omega (
+  arith,
+  (entry_ok_lem c.requires.values_ok c.args.v c.loop-j.j c.requires.v_le_values
+      (record { low = c.loop-j.invariant.0; high = omega (arith, c.listed-most.ensures.few) })).place,
+)
 
 pub bounds-entries-v : goal.bounds-entries-v
-bounds-entries-v c = omega (arith, (entry_ok_lem c.requires.values_ok c.args.v c.loop-j.j c.requires.v_le_values
-    (record { low = c.loop-j.invariant.0; high = omega (arith, c.listed-most.ensures.few) })).place)
+bounds-entries-v c = omega (
+  arith,
+  (entry_ok_lem c.requires.values_ok c.args.v c.loop-j.j c.requires.v_le_values
+      (record { low = c.loop-j.invariant.0; high = omega (arith, c.listed-most.ensures.few) })).place,
+)
 
 pub overflow_cast-n : goal.overflow_cast-n
-overflow_cast-n c = omega (arith, (entry_ok_lem c.requires.values_ok c.args.v c.loop-j.j c.requires.v_le_values
-    (record { low = c.loop-j.invariant.0; high = omega (arith, c.listed-most.ensures.few) })).object)
+overflow_cast-n c = omega (
+  arith,
+  (entry_ok_lem c.requires.values_ok c.args.v c.loop-j.j c.requires.v_le_values
+      (record { low = c.loop-j.invariant.0; high = omega (arith, c.listed-most.ensures.few) })).object,
+)
 
 pub offset_bounds-fine-n : goal.offset_bounds-fine-n
-offset_bounds-fine-n c = omega (arith, (entry_ok_lem c.requires.values_ok c.args.v c.loop-j.j c.requires.v_le_values
-    (record { low = c.loop-j.invariant.0; high = omega (arith, c.listed-most.ensures.few) })).object)
+offset_bounds-fine-n c = omega (
+  arith,
+  (entry_ok_lem c.requires.values_ok c.args.v c.loop-j.j c.requires.v_le_values
+      (record { low = c.loop-j.invariant.0; high = omega (arith, c.listed-most.ensures.few) })).object,
+)
 
 pub bounds-fine-n : goal.bounds-fine-n
-bounds-fine-n c = omega (arith, (entry_ok_lem c.requires.values_ok c.args.v c.loop-j.j c.requires.v_le_values
-    (record { low = c.loop-j.invariant.0; high = omega (arith, c.listed-most.ensures.few) })).object)
+bounds-fine-n c = omega (
+  arith,
+  (entry_ok_lem c.requires.values_ok c.args.v c.loop-j.j c.requires.v_le_values
+      (record { low = c.loop-j.invariant.0; high = omega (arith, c.listed-most.ensures.few) })).object,
+)
 
 pub has-requires : goal.has-requires
 has-requires c =
@@ -72,8 +93,11 @@ pub overflow_add-result : goal.overflow_add-result
 overflow_add-result c = omega arith
 
 pub overflow_add-j : goal.overflow_add-j
-overflow_add-j c = omega (arith, (entry_ok_lem c.requires.values_ok c.args.v c.loop-j.j c.requires.v_le_values
-    (record { low = c.loop-j.invariant.0; high = omega (arith, c.listed-most.ensures.few) })).place)
+overflow_add-j c = omega (
+  arith,
+  (entry_ok_lem c.requires.values_ok c.args.v c.loop-j.j c.requires.v_le_values
+      (record { low = c.loop-j.invariant.0; high = omega (arith, c.listed-most.ensures.few) })).place,
+)
 
 pub loop-j-smaller : goal.loop-j-smaller
 loop-j-smaller c = omega arith

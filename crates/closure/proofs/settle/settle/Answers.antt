@@ -24,7 +24,8 @@ pub next-v-requires : goal.next-v-requires
 next-v-requires c = c.loop-counts.invariant.0
 
 pub returns-then-from-eq0-clause-ended : goal.returns-then-from-eq0-clause-ended
-returns-then-from-eq0-clause-ended c = let b = c.loop-counts in λ m g z. ended_of (following m c.args.counts c.args.kind.now c.args.count.now
+returns-then-from-eq0-clause-ended c = let b = c.loop-counts in λ m g z. ended_of
+    (following m c.args.counts c.args.kind.now c.args.count.now
     c.args.entries.now true)
     c.args.fine.now _ _ _ b.d c.requires.values_ok.few-devices (b.invariant.4 m g)
     (λ v h e. c.next-v.ensures.clear v (omega arith) (omega arith) e)

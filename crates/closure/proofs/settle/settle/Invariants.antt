@@ -14,7 +14,8 @@ use Rattle.closure.proofs.settle.settle.Given as goal
 abbrev pub invariant-loop-counts : goal.invariant-loop-counts
 invariant-loop-counts l =
     (l.from < 64) × (length l.known ≡ object_slots) × (length l.readers ≡ value_slots) × (length l.done ≡ value_slots)
-    × ((m : Scene) → Going (following m l.counts l.kind l.count l.entries true) l.fine l.initial.known l.initial.readers l.initial.done l.todo → Going
+    × ((m : Scene) → Going (following m l.counts l.kind l.count l.entries true) l.fine l.initial.known
+    l.initial.readers l.initial.done l.todo → Going
     (following m l.counts l.kind l.count l.entries true) l.fine l.known l.readers l.done l.d)
 
 abbrev pub decreases-loop-counts : goal.decreases-loop-counts

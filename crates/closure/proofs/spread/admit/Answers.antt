@@ -21,8 +21,12 @@ pub returns-then-y-x-clause-added : goal.returns-then-y-x-clause-added
 returns-then-y-x-clause-added c = added_old c.args.reading c.args.o c.args.r c.args.known.now c.if-y-x.true
 
 pub returns-clause-grew : goal.returns-clause-grew
-returns-clause-grew c = let few : c.args.o < length c.args.known.now = omega (arith, c.requires.known_len, c.requires.o_le_most_objects) in grew_admit c.args.known.now c.args.o few c.args.r c.requires.low c.spread.ensures
+returns-clause-grew c = let few : c.args.o < length c.args.known.now = omega
+    (arith, c.requires.known_len, c.requires.o_le_most_objects) in grew_admit c.args.known.now c.args.o few c.args.r
+    c.requires.low c.spread.ensures
 
 pub returns-clause-added : goal.returns-clause-added
-returns-clause-added c = let few : c.args.o < length c.args.known.now = omega (arith, c.requires.known_len, c.requires.o_le_most_objects) in added_some c.args.known.now c.args.o few c.args.reading c.args.r
+returns-clause-added c = let few : c.args.o < length c.args.known.now = omega
+    (arith, c.requires.known_len, c.requires.o_le_most_objects) in added_some c.args.known.now c.args.o few
+    c.args.reading c.args.r
     (c.if-not-reading.false)

@@ -26,11 +26,13 @@ returns-then-y-x-clause-added c = added_old c.args.writing c.args.o _ c.args.kno
     c.args.o 0) c.power.ensures c.if-y-x.true)
 
 pub returns-clause-grew : goal.returns-clause-grew
-returns-clause-grew c = let few : c.args.o < length c.args.known.now = omega (arith, c.requires.known_len, c.requires.o_le_most_objects) in
+returns-clause-grew c = let few : c.args.o < length c.args.known.now = omega
+    (arith, c.requires.known_len, c.requires.o_le_most_objects) in
     let p = c.power in grew_collect c.args.known.now c.args.o few c.args.w p.result p.ensures c.give.ensures
 
 pub returns-clause-added : goal.returns-clause-added
-returns-clause-added c = let few : c.args.o < length c.args.known.now = omega (arith, c.requires.known_len, c.requires.o_le_most_objects) in
+returns-clause-added c = let few : c.args.o < length c.args.known.now = omega
+    (arith, c.requires.known_len, c.requires.o_le_most_objects) in
     let p = c.power in subst (λ (g : ℕ). Added c.args.writing c.args.o g c.args.known.now
     (set c.args.known.now c.args.o (bit_or (get_or c.args.known.now c.args.o 0) p.result)))
     p.ensures

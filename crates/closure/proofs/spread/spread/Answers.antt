@@ -45,8 +45,12 @@ loop-q-preserved c =
     let b = c.loop-q in
     let l = c.lowest-v in
     let g = c.give-d.ensures in
-    let e = c.clear-q.ensures in
-    (g.long ∙ b.invariant.0, omega (arith, e.less, b.invariant.1), giving_more l.result l.ensures.result_value e b.invariant.2 g)
+    let e = c.clear-q.ensures in (
+      g.long ∙ b.invariant.0,
+      omega (arith, e.less, b.invariant.1),
+      giving_more l.result l.ensures.result_value e
+          b.invariant.2 g,
+    )
 
 pub returns : goal.returns
 returns c =

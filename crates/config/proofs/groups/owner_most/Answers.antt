@@ -10,8 +10,10 @@ returns-then-class-eq-EXTERNAL_CLASS c = rw (eq-eqb _ _ c.if-class-eq-EXTERNAL_C
 
 pub returns-then-class-eq-DRIVER_CLASS : goal.returns-then-class-eq-DRIVER_CLASS
 unfolding owner_most
-returns-then-class-eq-DRIVER_CLASS c = rw (ne_eqb _ _ c.if-class-eq-EXTERNAL_CLASS.false, eq-eqb _ _ c.if-class-eq-DRIVER_CLASS.true)
+returns-then-class-eq-DRIVER_CLASS c = rw
+    (ne_eqb _ _ c.if-class-eq-EXTERNAL_CLASS.false, eq-eqb _ _ c.if-class-eq-DRIVER_CLASS.true)
 
 pub returns-else-class-eq-DRIVER_CLASS : goal.returns-else-class-eq-DRIVER_CLASS
 unfolding owner_most
-returns-else-class-eq-DRIVER_CLASS c = rw (ne_eqb _ _ c.if-class-eq-EXTERNAL_CLASS.false, ne_eqb _ _ c.if-class-eq-DRIVER_CLASS.false)
+returns-else-class-eq-DRIVER_CLASS c = rw
+    (ne_eqb _ _ c.if-class-eq-EXTERNAL_CLASS.false, ne_eqb _ _ c.if-class-eq-DRIVER_CLASS.false)

@@ -10,8 +10,10 @@ returns-then-kinds-i-ne-TRANSFER_KIND c = rw (ne_eqb _ _ c.if-kinds-i-ne-TRANSFE
 
 pub returns-then-mode-lt-WRITE_MODE : goal.returns-then-mode-lt-WRITE_MODE
 unfolding stored_most
-returns-then-mode-lt-WRITE_MODE c = rw (eq-eqb _ _ c.if-kinds-i-ne-TRANSFER_KIND.false, lt-leb _ _ c.if-mode-lt-WRITE_MODE.true)
+returns-then-mode-lt-WRITE_MODE c = rw
+    (eq-eqb _ _ c.if-kinds-i-ne-TRANSFER_KIND.false, lt-leb _ _ c.if-mode-lt-WRITE_MODE.true)
 
 pub returns-else-mode-lt-WRITE_MODE : goal.returns-else-mode-lt-WRITE_MODE
 unfolding stored_most
-returns-else-mode-lt-WRITE_MODE c = rw (eq-eqb _ _ c.if-kinds-i-ne-TRANSFER_KIND.false, le-leb _ _ c.if-mode-lt-WRITE_MODE.false)
+returns-else-mode-lt-WRITE_MODE c = rw
+    (eq-eqb _ _ c.if-kinds-i-ne-TRANSFER_KIND.false, le-leb _ _ c.if-mode-lt-WRITE_MODE.false)

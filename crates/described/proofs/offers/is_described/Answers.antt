@@ -52,6 +52,7 @@ returns-then-w-ge-READ_DIGIT c =
 
 pub returns : goal.returns
 returns c =
-    λ m d f. of_mode m c.args.kind.now d c.args.object c.args.w c.args.write true (c.if-not-write.false) (c.has-2.ensures
+    λ m d f. of_mode m c.args.kind.now d c.args.object c.args.w c.args.write true (c.if-not-write.false)
+    (c.has-2.ensures
     ∙ described-value (looking m c.args.kind.now).config m.state d c.args.table.now f c.args.object c.args.w
     c.if-kind-object-ne-TRANSFER_KIND.false (omega arith))

@@ -6,5 +6,6 @@ use Rattle.described.proofs.offers.put.Goals as goal
 
 pub returns : goal.returns
 returns c =
-    put_one c.args.table.now c.args.o c.args.k c.power.result (omega (arith, c.requires.table_len, c.requires.o_le_most_objects))
+    put_one c.args.table.now c.args.o c.args.k c.power.result
+    (omega (arith, c.requires.table_len, c.requires.o_le_most_objects))
     c.power.ensures

@@ -19,14 +19,18 @@ active_word-requires-clause-o_value c = holds_kind _ (inl c.if-kind-o-eq-TRANSFE
 pub returns-then-kind-o-eq-TRANSFER_KIND : goal.returns-then-kind-o-eq-TRANSFER_KIND
 returns-then-kind-o-eq-TRANSFER_KIND c = c.active_word.ensures
 
-pub active_word-requires-then-kind-o-eq-HARDCODED_KIND-clause-area_ok : goal.active_word-requires-then-kind-o-eq-HARDCODED_KIND-clause-area_ok
+pub active_word-requires-then-kind-o-eq-HARDCODED_KIND-clause-area_ok :
+    goal.active_word-requires-then-kind-o-eq-HARDCODED_KIND-clause-area_ok
 active_word-requires-then-kind-o-eq-HARDCODED_KIND-clause-area_ok c = c.requires.area_ok
 
-pub active_word-requires-then-kind-o-eq-HARDCODED_KIND-clause-fact : goal.active_word-requires-then-kind-o-eq-HARDCODED_KIND-clause-fact
+pub active_word-requires-then-kind-o-eq-HARDCODED_KIND-clause-fact :
+    goal.active_word-requires-then-kind-o-eq-HARDCODED_KIND-clause-fact
 active_word-requires-then-kind-o-eq-HARDCODED_KIND-clause-fact c = c.requires.fact
 
-pub active_word-requires-then-kind-o-eq-HARDCODED_KIND-clause-o_value : goal.active_word-requires-then-kind-o-eq-HARDCODED_KIND-clause-o_value
-active_word-requires-then-kind-o-eq-HARDCODED_KIND-clause-o_value c = holds_kind _ (inr c.if-kind-o-eq-HARDCODED_KIND.true)
+pub active_word-requires-then-kind-o-eq-HARDCODED_KIND-clause-o_value :
+    goal.active_word-requires-then-kind-o-eq-HARDCODED_KIND-clause-o_value
+active_word-requires-then-kind-o-eq-HARDCODED_KIND-clause-o_value c = holds_kind _
+    (inr c.if-kind-o-eq-HARDCODED_KIND.true)
 
 pub returns-then-kind-o-eq-HARDCODED_KIND : goal.returns-then-kind-o-eq-HARDCODED_KIND
 returns-then-kind-o-eq-HARDCODED_KIND c = c.active_word-then-kind-o-eq-HARDCODED_KIND.ensures

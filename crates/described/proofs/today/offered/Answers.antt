@@ -23,34 +23,48 @@ scene counts kind class owner count entries state d = scene_of d counts kind cla
 
 pub returns-then-device-lt1 : goal.returns-then-device-lt1
 returns-then-device-lt1 c =
-    λ d. offered_none (scene c.args.counts c.args.kind.now c.args.class.now c.args.owner.now c.args.count.now c.args.entries.now
+    λ d. offered_none (scene c.args.counts c.args.kind.now c.args.class.now c.args.owner.now c.args.count.now
+    c.args.entries.now
     (view c.args.room c.args.area.now) d) c.args.device
-    (today_none (scene c.args.counts c.args.kind.now c.args.class.now c.args.owner.now c.args.count.now c.args.entries.now
-    (view c.args.room c.args.area.now) d) c.args.device (owners_of (scene c.args.counts c.args.kind.now c.args.class.now c.args.owner.now c.args.count.now c.args.entries.now
+    (today_none (scene c.args.counts c.args.kind.now c.args.class.now c.args.owner.now c.args.count.now
+    c.args.entries.now
+    (view c.args.room c.args.area.now) d) c.args.device
+    (owners_of (scene c.args.counts c.args.kind.now c.args.class.now c.args.owner.now c.args.count.now
+    c.args.entries.now
     (view c.args.room c.args.area.now) d) c.requires.owners_ok) (λ i. omega (arith, i.low)))
 
 pub returns-then-counts-device : goal.returns-then-counts-device
 returns-then-counts-device c =
-    λ d. offered_none (scene c.args.counts c.args.kind.now c.args.class.now c.args.owner.now c.args.count.now c.args.entries.now
+    λ d. offered_none (scene c.args.counts c.args.kind.now c.args.class.now c.args.owner.now c.args.count.now
+    c.args.entries.now
     (view c.args.room c.args.area.now) d) c.args.device
-    (today_none (scene c.args.counts c.args.kind.now c.args.class.now c.args.owner.now c.args.count.now c.args.entries.now
-    (view c.args.room c.args.area.now) d) c.args.device (owners_of (scene c.args.counts c.args.kind.now c.args.class.now c.args.owner.now c.args.count.now c.args.entries.now
+    (today_none (scene c.args.counts c.args.kind.now c.args.class.now c.args.owner.now c.args.count.now
+    c.args.entries.now
+    (view c.args.room c.args.area.now) d) c.args.device
+    (owners_of (scene c.args.counts c.args.kind.now c.args.class.now c.args.owner.now c.args.count.now
+    c.args.entries.now
     (view c.args.room c.args.area.now) d) c.requires.owners_ok) (λ i. omega (arith, i.high)))
 
 pub owned_values-seen-requires-clause-area_ok : goal.owned_values-seen-requires-clause-area_ok
 owned_values-seen-requires-clause-area_ok c = c.requires.area_ok
 
 pub owned_values-seen-requires-clause-fact : goal.owned_values-seen-requires-clause-fact
-owned_values-seen-requires-clause-fact c = record { low = omega arith; high = omega (arith, c.requires.values_ok.few-devices) }
+owned_values-seen-requires-clause-fact c = record
+    { low = omega arith; high = omega (arith, c.requires.values_ok.few-devices) }
 
 pub loop-counts-init : goal.loop-counts-init
 loop-counts-init c =
     let x = c.owned_values-seen.result in (
       omega arith,
       refl,
-      λ d. (seeing_start (scene c.args.counts c.args.kind.now c.args.class.now c.args.owner.now c.args.count.now c.args.entries.now
-    (view c.args.room c.args.area.now) d) c.args.device x c.owned_values-seen.ensures, noting_start (scene c.args.counts c.args.kind.now c.args.class.now c.args.owner.now c.args.count.now c.args.entries.now
-    (view c.args.room c.args.area.now) d) x),
+      λ d. (
+        seeing_start (scene c.args.counts c.args.kind.now c.args.class.now c.args.owner.now c.args.count.now
+            c.args.entries.now
+            (view c.args.room c.args.area.now) d) c.args.device x c.owned_values-seen.ensures,
+        noting_start
+            (scene c.args.counts c.args.kind.now c.args.class.now c.args.owner.now c.args.count.now c.args.entries.now
+            (view c.args.room c.args.area.now) d) x,
+      ),
     )
 
 pub next-v-requires : goal.next-v-requires
@@ -61,10 +75,13 @@ returns-then-last-v c =
     let b = c.loop-counts in
     let none : (v : ℕ) → v ≤ c.args.counts.values → bit b.todo v ≡ 1 → ⊥ =
     λ v h e. c.next-v.ensures.clear v (omega arith) (omega arith) e in
-    λ d. offered_of (scene c.args.counts c.args.kind.now c.args.class.now c.args.owner.now c.args.count.now c.args.entries.now
+    λ d. offered_of (scene c.args.counts c.args.kind.now c.args.class.now c.args.owner.now c.args.count.now
+    c.args.entries.now
     (view c.args.room c.args.area.now) d) c.args.device b.seen b.todo b.t c.requires.values_ok
-    (today_of_lem (scene c.args.counts c.args.kind.now c.args.class.now c.args.owner.now c.args.count.now c.args.entries.now
-    (view c.args.room c.args.area.now) d) c.args.device refl c.requires.area_ok.held_known b.seen b.todo (b.invariant.2 d).0 none)
+    (today_of_lem (scene c.args.counts c.args.kind.now c.args.class.now c.args.owner.now c.args.count.now
+    c.args.entries.now
+    (view c.args.room c.args.area.now) d) c.args.device refl c.requires.area_ok.held_known b.seen b.todo
+    (b.invariant.2 d).0 none)
     none (b.invariant.2 d).1
 
 pub opened_values-requires-clause-values_ok : goal.opened_values-requires-clause-values_ok
@@ -101,12 +118,14 @@ loop-counts-preserved c =
       or_lt 64 b.seen c.without-new.result b.invariant.0 (omega arith),
       f.noted_all.long ∙ b.invariant.1,
       λ d. (
-        seeing_more (scene c.args.counts c.args.kind.now c.args.class.now c.args.owner.now c.args.count.now c.args.entries.now
-    (view c.args.room c.args.area.now) d) c.args.device b.seen b.todo c.clear.result c.without-new.result
+        seeing_more (scene c.args.counts c.args.kind.now c.args.class.now c.args.owner.now c.args.count.now
+            c.args.entries.now
+            (view c.args.room c.args.area.now) d) c.args.device b.seen b.todo c.clear.result c.without-new.result
             n.result c.opened_values.result c.requires.values_ok (omega arith) here c.clear.ensures
             c.without-new.ensures f.opened_words (b.invariant.2 d).0,
-        noting_more (scene c.args.counts c.args.kind.now c.args.class.now c.args.owner.now c.args.count.now c.args.entries.now
-    (view c.args.room c.args.area.now) d) b.seen b.todo c.clear.result c.without-new.result n.result
+        noting_more (scene c.args.counts c.args.kind.now c.args.class.now c.args.owner.now c.args.count.now
+            c.args.entries.now
+            (view c.args.room c.args.area.now) d) b.seen b.todo c.clear.result c.without-new.result n.result
             ((b.invariant.2 d).0.within n.result here) c.clear.ensures f.noted_all (b.invariant.2 d).1,
       ),
     )

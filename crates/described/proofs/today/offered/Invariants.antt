@@ -18,8 +18,10 @@ use Rattle.described.proofs.today.offered.Given as goal
 abbrev pub invariant-loop-counts : goal.invariant-loop-counts
 invariant-loop-counts l =
     (l.seen < 2 ^ 64) × (length l.t ≡ object_slots) × ((d : Devices)
-    → Seeing (scene_of d l.counts l.kind l.class l.owner l.count l.entries false (view l.room l.area)) l.device l.seen l.todo
-    × Noting (scene_of d l.counts l.kind l.class l.owner l.count l.entries false (view l.room l.area)) l.seen l.todo l.t)
+    → Seeing (scene_of d l.counts l.kind l.class l.owner l.count l.entries false (view l.room l.area)) l.device
+    l.seen l.todo
+    × Noting (scene_of d l.counts l.kind l.class l.owner l.count l.entries false (view l.room l.area)) l.seen l.todo
+    l.t)
 
 abbrev pub decreases-loop-counts : goal.decreases-loop-counts
 decreases-loop-counts l =

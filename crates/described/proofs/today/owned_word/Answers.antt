@@ -15,7 +15,8 @@ pub returns-then-kind-o-ne-HARDCODED_KIND : goal.returns-then-kind-o-ne-HARDCODE
 returns-then-kind-o-ne-HARDCODED_KIND c =
     owned_none c.args.kind.now c.args.class.now c.args.owner.now
     (view c.args.room c.args.area.now) c.args.device c.args.o
-    (λ e. c.if-kind-o-ne-HARDCODED_KIND.true (owned-kind (search_config (record { hardcoded = []; serial = [] }) c.args.counts
+    (λ e. c.if-kind-o-ne-HARDCODED_KIND.true
+    (owned-kind (search_config (record { hardcoded = []; serial = [] }) c.args.counts
     c.args.kind.now
     c.args.class.now c.args.owner.now [] []) (view c.args.room c.args.area.now)
     c.args.device c.args.o e))

@@ -12,7 +12,8 @@ use Rattle.effect.proofs.moves.move_owned.Given as goal
 abbrev pub invariant-loop-i : goal.invariant-loop-i
 invariant-loop-i l =
     (l.i ≤ l.last) × (length l.area ≡ length l.initial.area) × Lesser l.objects l.room l.last
-    × (view l.room l.area ≡ moved_to (owned_by l.objects l.class l.owner l.a l.k) l.clears l.kind l.p l.i (view l.room l.initial.area))
+    × (view l.room l.area ≡ moved_to (owned_by l.objects l.class l.owner l.a l.k) l.clears l.kind l.p l.i
+    (view l.room l.initial.area))
 
 abbrev pub decreases-loop-i : goal.decreases-loop-i
 decreases-loop-i l = l.last - l.i

@@ -11,7 +11,8 @@ use Rattle.effect.proofs.transfers.read_out.Given as goal
 
 abbrev pub invariant-loop-i : goal.invariant-loop-i
 invariant-loop-i l = (l.i ≤ l.count) × (length l.answer ≡ length l.initial.answer)
-    × (l.answer ≡ sources (operation_of l.objects [] [] []) (view l.room l.area) l.i ++ drop (content_bytes * l.i) l.initial.answer)
+    × (l.answer ≡ sources (operation_of l.objects [] [] []) (view l.room l.area) l.i ++ drop (content_bytes * l.i)
+    l.initial.answer)
 
 abbrev pub decreases-loop-i : goal.decreases-loop-i
 decreases-loop-i l = l.count - l.i

@@ -48,18 +48,20 @@ pub returns-then-not-follows_confined : goal.returns-then-not-follows_confined
 returns-then-not-follows_confined c =
     Calling.no_next _ _ _ (c.judge-q.ensures c.args.config) c.if-q-ne0.false
     c.family_of-f.ensures c.actor_of-a.ensures c.are_described.ensures
-    (c.if-not-are_described.false) (elim c.if-is_ruled.branch
-    [ then-is_ruled+else-not-keeps_green x ↦ sym x.if-not-keeps_green.false ∙ x.keeps_green.ensures
-    | else-is_ruled x ↦ Ruling.unruled _ _ _ _ _ (sym c.is_ruled.ensures ∙ x.if-is_ruled.false) ]) refl
+    (c.if-not-are_described.false) (elim c.if-is_ruled.branch [
+      | then-is_ruled+else-not-keeps_green x ↦ sym x.if-not-keeps_green.false ∙ x.keeps_green.ensures
+      | else-is_ruled x ↦ Ruling.unruled _ _ _ _ _ (sym c.is_ruled.ensures ∙ x.if-is_ruled.false)
+    ]) refl
     c.follows_confined.ensures (c.if-not-follows_confined.true) c.next_number.ensures
 
 pub returns-then-not-is_leaving : goal.returns-then-not-is_leaving
 returns-then-not-is_leaving c =
     Calling.stays _ _ _ (c.judge-q.ensures c.args.config) c.if-q-ne0.false
     c.family_of-f.ensures c.actor_of-a.ensures c.are_described.ensures
-    (c.if-not-are_described.false) (elim c.if-is_ruled.branch
-    [ then-is_ruled+else-not-keeps_green x ↦ sym x.if-not-keeps_green.false ∙ x.keeps_green.ensures
-    | else-is_ruled x ↦ Ruling.unruled _ _ _ _ _ (sym c.is_ruled.ensures ∙ x.if-is_ruled.false) ]) refl
+    (c.if-not-are_described.false) (elim c.if-is_ruled.branch [
+      | then-is_ruled+else-not-keeps_green x ↦ sym x.if-not-keeps_green.false ∙ x.keeps_green.ensures
+      | else-is_ruled x ↦ Ruling.unruled _ _ _ _ _ (sym c.is_ruled.ensures ∙ x.if-is_ruled.false)
+    ]) refl
     c.follows_confined.ensures (c.if-not-follows_confined.false)
     c.is_leaving.ensures (c.if-not-is_leaving.true)
 
@@ -78,8 +80,9 @@ pub returns : goal.returns
 returns c =
     Calling.last_20 _ _ _ (c.judge-q.ensures c.args.config) c.if-q-ne0.false
     c.family_of-f.ensures c.actor_of-a.ensures c.are_described.ensures
-    (c.if-not-are_described.false) (elim c.if-is_ruled.branch
-    [ then-is_ruled+else-not-keeps_green x ↦ sym x.if-not-keeps_green.false ∙ x.keeps_green.ensures
-    | else-is_ruled x ↦ Ruling.unruled _ _ _ _ _ (sym c.is_ruled.ensures ∙ x.if-is_ruled.false) ]) refl
+    (c.if-not-are_described.false) (elim c.if-is_ruled.branch [
+      | then-is_ruled+else-not-keeps_green x ↦ sym x.if-not-keeps_green.false ∙ x.keeps_green.ensures
+      | else-is_ruled x ↦ Ruling.unruled _ _ _ _ _ (sym c.is_ruled.ensures ∙ x.if-is_ruled.false)
+    ]) refl
     c.follows_confined.ensures (c.if-not-follows_confined.false)
     c.stays_unnamed.ensures c.leaving_number.ensures

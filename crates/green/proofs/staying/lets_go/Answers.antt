@@ -18,4 +18,5 @@ returns-then-table-n-eq1 c =
 pub returns : goal.returns
 returns c =
     Letting.goes_value _ _ _ _ _ _ refl (c.wide-here.ensures.0 ∙ c.object_in.ensures)
-    (not_from_true _ c.if-not-k-here.false) refl c.if-table-n-eq1.false (c.wide.ensures.0 ∙ c.held_by.ensures) c.byte_at.ensures
+    (not_from_true _ c.if-not-k-here.false) refl c.if-table-n-eq1.false (c.wide.ensures.0 ∙ c.held_by.ensures)
+    c.byte_at.ensures

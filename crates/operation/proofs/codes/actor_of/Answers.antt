@@ -17,5 +17,6 @@ pub returns-in-15 : goal.returns-in-15
 returns-in-15 c = Parsing.unlock_actor _ c.in-15.is
 
 pub returns-in_default : goal.returns-in_default
-returns-in_default c = Parsing.external_actor c.args.code c.in_default.in_default-own.rest.0.0.0.1 c.in_default.in_default-own.rest.0.0.1
+returns-in_default c = Parsing.external_actor c.args.code c.in_default.in_default-own.rest.0.0.0.1
+    c.in_default.in_default-own.rest.0.0.1
     (λ e. omega arith) (λ e. omega arith)

@@ -5,7 +5,10 @@ use mathlib.Core.Logic.{⊎_elim, inl, inr}
 use Rattle.operation.proofs.Parsing
 use borrow.Author.Rules.{rules}
 use Rattle.operation.proofs.codes.arguments.Goals as goal
-use Rattle.operation.proofs.codes.arguments.Goals.{in_default-via-then-code-lt1, in_default-via-else-code-lt1+else-code-lt3+else-code-lt5+else-code-lt7+else-code-lt9+else-code-lt12}
+use Rattle.operation.proofs.codes.arguments.Goals.{in_default-via-then-code-lt1}
+use Rattle.operation.proofs.codes.arguments.Goals.{
+  in_default-via-else-code-lt1+else-code-lt3+else-code-lt5+else-code-lt7+else-code-lt9+else-code-lt12,
+}
 
 pub returns-in-9 : goal.returns-in-9
 returns-in-9 c = Parsing.list_arm _ _ _ c.in-9.is c.read_counted.ensures
@@ -36,11 +39,12 @@ returns-in-10-to-11 c =
     Parsing.deactivate_between _ _ _ (omega arith) (omega arith)
     (λ e. c.in-10-to-11.in_default-own.rest.0.0.0.1 (inl e)) c.read_deactivation-in-10-to-11.ensures
 
-
 pub returns-in_default : goal.returns-in_default
 returns-in_default c =
-    elim c.in_default.branch
-    [ in_default-via-then-code-lt1 w ↦ Parsing.zero_arm _ _ _ (omega arith) c.stop.ensures
-    | in_default-via-else-code-lt1+else-code-lt3+else-code-lt5+else-code-lt7+else-code-lt9+else-code-lt12 w ↦
-      Parsing.past_arm _ _ _ (omega arith) (λ e. c.in_default-1.rest.0.0.0.1 (inr e)) (λ e. omega arith) (λ e. omega arith) (λ e. omega arith)
-      c.stop.ensures ]
+    elim c.in_default.branch [
+      | in_default-via-then-code-lt1 w ↦ Parsing.zero_arm _ _ _ (omega arith) c.stop.ensures
+      | in_default-via-else-code-lt1+else-code-lt3+else-code-lt5+else-code-lt7+else-code-lt9+else-code-lt12 w ↦
+          Parsing.past_arm _ _ _ (omega arith) (λ e. c.in_default-1.rest.0.0.0.1 (inr e)) (λ e. omega arith)
+          (λ e. omega arith) (λ e. omega arith)
+          c.stop.ensures
+    ]

@@ -28,7 +28,6 @@ pub returns-in-7-to-9 : goal.returns-in-7-to-9
 returns-in-7-to-9 c = Parsing.activate_between c.args.code (omega arith) (omega arith)
     (λ e. c.in-7-to-9.in_default-own.rest.0.0.0.1 (inl e)) (λ e. omega arith)
 
-
 pub returns-in_default : goal.returns-in_default
 returns-in_default c =
     Parsing.deactivate_family c.args.code (omega arith) (λ e. c.in_default.in_default-own.rest.0.0.0.1 (inr e))

@@ -10,7 +10,8 @@ use Rattle.operation.proofs.items.paste.Given as goal
 
 abbrev pub invariant-loop-k : goal.invariant-loop-k
 invariant-loop-k l =
-    (l.k ≤ content_bytes) × ((length l.out ≡ content_bytes * most_items) × (l.out ≡ sets l.initial.out l.to (take l.k l.bytes)))
+    (l.k ≤ content_bytes) × ((length l.out ≡ content_bytes * most_items) ×
+    (l.out ≡ sets l.initial.out l.to (take l.k l.bytes)))
 
 abbrev pub decreases-loop-k : goal.decreases-loop-k
 decreases-loop-k l = content_bytes - l.k

@@ -8,7 +8,8 @@ use Rattle.operation.proofs.Parsing
 use Rattle.operation.proofs.items.read_elements.Given as goal
 
 abbrev pub invariant-loop-i : goal.invariant-loop-i
-invariant-loop-i l = (l.i ≤ l.n) × (turns (element l.e l.s) (l.n - l.i) l.i l.p l.o ≡ turns (element l.e l.s) l.n 0 l.initial.p l.initial.o)
+invariant-loop-i l = (l.i ≤ l.n) ×
+    (turns (element l.e l.s) (l.n - l.i) l.i l.p l.o ≡ turns (element l.e l.s) l.n 0 l.initial.p l.initial.o)
 
 abbrev pub decreases-loop-i : goal.decreases-loop-i
 decreases-loop-i l = l.n - l.i

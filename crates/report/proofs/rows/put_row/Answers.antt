@@ -5,4 +5,5 @@ use Rattle.report.proofs.rows.put_row.Goals as goal
 
 pub returns : goal.returns
 returns c =
-    row_put c.args.at c.args.out.now c.args.place c.args.n c.put_decimal-p.ensures c.put-s.ensures c.put_decimal-a.ensures c.put.ensures
+    row_put c.args.at c.args.out.now c.args.place c.args.n c.put_decimal-p.ensures c.put-s.ensures
+    c.put_decimal-a.ensures c.put.ensures

@@ -82,8 +82,10 @@ loop-at-preserved c =
       onward-next a.line.now a.session.now a.area.now a.answer.now a.out.now l.area l.answer
           l.out l.at l.place l.end l.invariant.6 _ (part_to_end a.session.now l.at) _
           c.loop-at-test.true c.decode-size.ensures.value n from c.in-Got.is
-          (omega (arith, c.if-rest-from.false, w.1))
-          (c.judge_record-end.ensures.put, (c.judge_record-end.ensures.area_after, c.judge_record-end.ensures.answer_after)),
+          (omega (arith, c.if-rest-from.false, w.1)) (
+            c.judge_record-end.ensures.put,
+            (c.judge_record-end.ensures.area_after, c.judge_record-end.ensures.answer_after),
+          ),
     )
 
 pub returns : goal.returns

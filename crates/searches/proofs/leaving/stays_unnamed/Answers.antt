@@ -10,8 +10,10 @@ use Rattle.searches.proofs.leaving.stays_unnamed.Goals as goal
 pub returns-then-not-is_leaving : goal.returns-then-not-is_leaving
 returns-then-not-is_leaving c = Unnamed.q20_free _ _ _ _ _ (sym c.is_leaving.ensures ∙ c.if-not-is_leaving.true)
 
-pub mark_concerned-table-requires-clause-objects_le_most_objects : goal.mark_concerned-table-requires-clause-objects_le_most_objects
-mark_concerned-table-requires-clause-objects_le_most_objects c = Readying.few-objects _ _ _ _ _ _ c.requires.ready c.requires.asked
+pub mark_concerned-table-requires-clause-objects_le_most_objects :
+    goal.mark_concerned-table-requires-clause-objects_le_most_objects
+mark_concerned-table-requires-clause-objects_le_most_objects c = Readying.few-objects _ _ _ _ _ _ c.requires.ready
+    c.requires.asked
 
 pub mark_concerned-table-requires-clause-in_table : goal.mark_concerned-table-requires-clause-in_table
 mark_concerned-table-requires-clause-in_table c = λ e. Readying.small_of _ _ _ _ _ _ c.requires.ready c.requires.asked

@@ -20,7 +20,8 @@ pub is_confined_small-requires-clause-fit : goal.is_confined_small-requires-clau
 is_confined_small-requires-clause-fit c = Readying.spare_fit _ _ _ _ _ _ c.requires.ready c.requires.asked
 
 pub is_confined_small-requires-clause-searchable : goal.is_confined_small-requires-clause-searchable
-is_confined_small-requires-clause-searchable c = Readying.next-searchable _ _ _ _ _ _ c.requires.ready c.requires.asked _ refl
+is_confined_small-requires-clause-searchable c = Readying.next-searchable _ _ _ _ _ _ c.requires.ready
+    c.requires.asked _ refl
     (sym c.is_followed.ensures ∙ c.if-not-is_followed.false)
 
 pub returns-then-room : goal.returns-then-room
@@ -36,7 +37,8 @@ pub is_confined_wide-requires-clause-fit : goal.is_confined_wide-requires-clause
 is_confined_wide-requires-clause-fit c = Readying.spare_fit _ _ _ _ _ _ c.requires.ready c.requires.asked
 
 pub is_confined_wide-requires-clause-searchable : goal.is_confined_wide-requires-clause-searchable
-is_confined_wide-requires-clause-searchable c = Readying.next-searchable _ _ _ _ _ _ c.requires.ready c.requires.asked _ refl
+is_confined_wide-requires-clause-searchable c = Readying.next-searchable _ _ _ _ _ _ c.requires.ready
+    c.requires.asked _ refl
     (sym c.is_followed.ensures ∙ c.if-not-is_followed.false)
 
 pub returns : goal.returns

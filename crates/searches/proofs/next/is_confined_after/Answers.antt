@@ -9,4 +9,5 @@ is_confined-requires c = search Asking.searched_at
 
 pub returns : goal.returns
 returns c =
-    let (f0, f1) = Asking.confined_at _ _ _ _ c.follow.ensures _ c.is_confined.ensures in record { value = f0; next_after = f1 }
+    let (f0, f1) = Asking.confined_at _ _ _ _ c.follow.ensures _ c.is_confined.ensures in record
+    { value = f0; next_after = f1 }

@@ -10,7 +10,8 @@ slice_bounds-is_confined_after-end c =
     Readying.scratch_lent _ _ _ _ _ c.requires.room_le_most_objects c.requires.fit refl
 
 pub is_confined_after-requires-clause-next_len : goal.is_confined_after-requires-clause-next_len
-is_confined_after-requires-clause-next_len c = Readying.scratch_long _ _ _ _ _ c.requires.room_le_most_objects c.requires.fit refl
+is_confined_after-requires-clause-next_len c = Readying.scratch_long _ _ _ _ _ c.requires.room_le_most_objects
+    c.requires.fit refl
 
 pub is_confined_after-requires-clause-fit : goal.is_confined_after-requires-clause-fit
 is_confined_after-requires-clause-fit c = c.requires.fit

@@ -17,7 +17,8 @@ abbrev pub invariant-loop-i : goal.invariant-loop-i
 invariant-loop-i l =
     (l.i ≤ l.n) × (l.n ≤ most_items)
     × ((m : Scene) → Offered (today_of m l.t.kind (view l.room l.area)) l.op.subject l.table
-    → all_below l.i (item_described (today_of m l.t.kind (view l.room l.area)).config (view l.room l.area) l.op l.f) ≡ true)
+    → all_below l.i (item_described (today_of m l.t.kind (view l.room l.area)).config (view l.room l.area) l.op l.f)
+    ≡ true)
 
 abbrev pub decreases-loop-i : goal.decreases-loop-i
 decreases-loop-i l = l.n - l.i

@@ -7,7 +7,8 @@ use Rattle.state.proofs.Splicing.{none, turn, last, length_turn}
 use Rattle.state.proofs.bytes.copy.Given as goal
 
 abbrev pub invariant-loop-i : goal.invariant-loop-i
-invariant-loop-i l = (l.i ≤ l.n) × (length l.dst ≡ length l.initial.dst) × (l.dst ≡ splice l.initial.dst l.to (part l.src l.from l.i))
+invariant-loop-i l = (l.i ≤ l.n) × (length l.dst ≡ length l.initial.dst) ×
+    (l.dst ≡ splice l.initial.dst l.to (part l.src l.from l.i))
 
 abbrev pub decreases-loop-i : goal.decreases-loop-i
 decreases-loop-i l = l.n - l.i

@@ -8,7 +8,8 @@ use Rattle.state.proofs.Turns.{zero_on, zero_end}
 use Rattle.state.proofs.fresh.zero.Given as goal
 
 abbrev pub invariant-loop-i : goal.invariant-loop-i
-invariant-loop-i l = (l.i ≤ l.n) × (length l.area ≡ length l.initial.area) × (l.area ≡ replicate l.i 0 ++ drop l.i l.initial.area)
+invariant-loop-i l = (l.i ≤ l.n) × (length l.area ≡ length l.initial.area) ×
+    (l.area ≡ replicate l.i 0 ++ drop l.i l.initial.area)
 
 abbrev pub decreases-loop-i : goal.decreases-loop-i
 decreases-loop-i l = l.n - l.i

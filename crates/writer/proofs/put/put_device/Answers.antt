@@ -4,10 +4,12 @@ use borrow.Author.Rules.{rules}
 use Rattle.writer.proofs.put.put_device.Goals as goal
 
 pub returns-then-edition-lt-SERIAL_EDITION : goal.returns-then-edition-lt-SERIAL_EDITION
-returns-then-edition-lt-SERIAL_EDITION c = let (f0, f1) = Putting.device_plain _ _ _ _ _ c.put_number-p.ensures.placed c.if-edition-lt-SERIAL_EDITION.true in record { placed = f0; upper_bound = f1 }
+returns-then-edition-lt-SERIAL_EDITION c = let (f0, f1) = Putting.device_plain _ _ _ _ _
+    c.put_number-p.ensures.placed c.if-edition-lt-SERIAL_EDITION.true in record { placed = f0; upper_bound = f1 }
 
 pub encode-requires-clause-v_le_most_number : goal.encode-requires-clause-v_le_most_number
 encode-requires-clause-v_le_most_number c = c.requires.serial_le_most_serial c.if-edition-lt-SERIAL_EDITION.false
 
 pub returns : goal.returns
-returns c = let (f0, f1) = Putting.device-serial _ _ _ _ _ c.put_number-p.ensures.placed c.if-edition-lt-SERIAL_EDITION.false c.encode.ensures in record { placed = f0; upper_bound = f1 }
+returns c = let (f0, f1) = Putting.device-serial _ _ _ _ _ c.put_number-p.ensures.placed
+    c.if-edition-lt-SERIAL_EDITION.false c.encode.ensures in record { placed = f0; upper_bound = f1 }

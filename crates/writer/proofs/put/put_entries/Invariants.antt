@@ -12,7 +12,8 @@ use Rattle.writer.proofs.put.put_entries.Given as goal
 
 abbrev pub invariant-loop-i : goal.invariant-loop-i
 invariant-loop-i l =
-    (l.i ≤ l.n) × (length l.out ≡ length l.initial.out) × (l.p ≤ l.at + 3 * most_bytes * l.i) × (l.e ≡ entry_place l.v (l.i + 1))
+    (l.i ≤ l.n) × (length l.out ≡ length l.initial.out) × (l.p ≤ l.at + 3 * most_bytes * l.i) ×
+    (l.e ≡ entry_place l.v (l.i + 1))
     × Placed (rows_from (entry_bytes_of l.entries l.v) l.i 0) l.at l.initial.out l.p l.out
 
 abbrev pub decreases-loop-i : goal.decreases-loop-i

@@ -11,7 +11,8 @@ pub put_objects-b-requires-clause-n_le_most_objects : goal.put_objects-b-require
 put_objects-b-requires-clause-n_le_most_objects c = let few = Putting.few_of _ c.requires in few.objects
 
 pub put_objects-b-requires-clause-at_le_any_file_bytes : goal.put_objects-b-requires-clause-at_le_any_file_bytes
-put_objects-b-requires-clause-at_le_any_file_bytes c = let few = Putting.few_of _ c.requires in omega (arith, c.put_counts-a.ensures.upper_bound)
+put_objects-b-requires-clause-at_le_any_file_bytes c = let few = Putting.few_of _ c.requires in omega
+    (arith, c.put_counts-a.ensures.upper_bound)
 
 pub put_devices-c-requires-clause-n_le_most_devices : goal.put_devices-c-requires-clause-n_le_most_devices
 put_devices-c-requires-clause-n_le_most_devices c = let h = c.requires in
@@ -23,7 +24,8 @@ put_devices-c-requires-clause-by_index c = let h = c.requires in
 
 pub put_devices-c-requires-clause-at_le_any_file_bytes : goal.put_devices-c-requires-clause-at_le_any_file_bytes
 put_devices-c-requires-clause-at_le_any_file_bytes c = let h = c.requires in
-    let few = Putting.few_of _ h in omega (arith, few.objects, c.put_counts-a.ensures.upper_bound, c.put_objects-b.ensures.upper_bound)
+    let few = Putting.few_of _ h in omega
+    (arith, few.objects, c.put_counts-a.ensures.upper_bound, c.put_objects-b.ensures.upper_bound)
 
 pub put_values-requires-clause-n_le_most_values : goal.put_values-requires-clause-n_le_most_values
 put_values-requires-clause-n_le_most_values c = let h = c.requires in

@@ -4,4 +4,5 @@ use borrow.Author.Rules.{rules}
 use Rattle.writer.proofs.put.put_number.Goals as goal
 
 pub returns : goal.returns
-returns c = let (f0, f1) = Putting.number-placed _ _ _ _ c.wide.ensures.0 c.encode.ensures in record { placed = f0; upper_bound = f1 }
+returns c = let (f0, f1) = Putting.number-placed _ _ _ _ c.wide.ensures.0 c.encode.ensures in record
+    { placed = f0; upper_bound = f1 }

@@ -4,4 +4,5 @@ use borrow.Author.Rules.{rules}
 use Rattle.writer.proofs.put.put_value.Goals as goal
 
 pub returns : goal.returns
-returns c = let (f0, f1) = Putting.value-placed _ _ _ c.requires.v_le_most_values.1 _ _ c.put_number-p.ensures.placed c.put_entries.ensures in record { placed = f0; upper_bound = f1 }
+returns c = let (f0, f1) = Putting.value-placed _ _ _ c.requires.v_le_most_values.1 _ _ c.put_number-p.ensures.placed
+    c.put_entries.ensures in record { placed = f0; upper_bound = f1 }
