@@ -6,7 +6,7 @@
 
 ghost use Rattle.std.specs.Prelude.{◌≡◌, ◌+◌, ◌*◌, ◌<◌};
 
-use libc::{STDIN_FILENO, STDOUT_FILENO};
+use files::read_full;
 use report::{MOST_TEXT, report_whole};
 
 const MOST_INPUT: usize = 196608;
@@ -21,14 +21,14 @@ fn two(low: u8, high: u8) -> usize
     (low as usize) + 256 * (high as usize)
 }
 
-fn judge(line: &[u8], session: &[u8]) {
+fn judge(rt: &impl Print, line: &[u8], session: &[u8]) {
     let mut text = [0u8; MOST_TEXT];
     let n = report_whole(line, session, &mut text);
-    io::write_all(STDOUT_FILENO, &text[..n]);
-    io::write_all(STDOUT_FILENO, b".\n");
+    let _ = rt.write_all(&text[..n]);
+    let _ = rt.write_all(b".\n");
 }
 
-fn judge_all(s: &[u8]) {
+fn judge_all(rt: &impl Print, s: &[u8]) {
     let mut at: usize = 0;
     while at < s.len() {
         if s.len() - at < HEAD_BYTES {
@@ -42,13 +42,14 @@ fn judge_all(s: &[u8]) {
         }
         let middle = from + line;
         let end = middle + session;
-        judge(&s[from..middle], &s[middle..end]);
+        judge(rt, &s[from..middle], &s[middle..end]);
         at = end;
     }
 }
 
-fn main() {
+// The program ends with 0 also where its text cannot be written.
+fn main(rt: HostRuntime) {
     let mut buf = [0u8; MOST_INPUT];
-    let n = io::read_full(STDIN_FILENO, &mut buf);
-    judge_all(&buf[..n]);
+    let n = read_full(&mut rt.stdin(), &mut buf);
+    judge_all(&rt, &buf[..n]);
 }

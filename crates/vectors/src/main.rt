@@ -7,22 +7,17 @@ mod cases;
 mod memory;
 
 use cases::Row;
-use libc::{STDIN_FILENO, STDOUT_FILENO};
+use files::read_full;
 
 const MOST_INPUT: usize = 245760;
 
 const HEAD_BYTES: usize = 3;
 
-fn print_row(place: u64, row: Row) {
-    io::print_decimal(STDOUT_FILENO, place);
-    io::write_all(STDOUT_FILENO, b" ");
-    io::print_decimal(STDOUT_FILENO, row.answer);
-    io::write_all(STDOUT_FILENO, b" ");
-    io::print_decimal(STDOUT_FILENO, row.left);
-    io::write_all(STDOUT_FILENO, b"\n");
+fn print_row(rt: &impl Print, place: u64, row: Row) {
+    let _ = println!(rt; "{place} {} {}", row.answer, row.left);
 }
 
-fn judge_all(s: &[u8]) {
+fn judge_all(rt: &impl Print, s: &[u8]) {
     let mut at: usize = 0;
     let mut place: u64 = 0;
     while at < s.len() {
@@ -37,13 +32,14 @@ fn judge_all(s: &[u8]) {
         let end = from + size;
         let row = cases::judge(s[at], &s[from..end]);
         place += 1;
-        print_row(place, row);
+        print_row(rt, place, row);
         at = end;
     }
 }
 
-fn main() {
+// The program ends with 0 also where its rows cannot be written.
+fn main(rt: HostRuntime) {
     let mut buf = [0u8; MOST_INPUT];
-    let n = io::read_full(STDIN_FILENO, &mut buf);
-    judge_all(&buf[..n]);
+    let n = read_full(&mut rt.stdin(), &mut buf);
+    judge_all(&rt, &buf[..n]);
 }

@@ -142,7 +142,7 @@ fn judge_memory(
     };
     let config = filled(counts, serial, slots, after(memory, COUNT_BYTES));
     let mut area = [OLD_BYTE; MOST_AREA];
-    let k = io::count(n as isize, &area);
+    let k = n.min(MOST_AREA);
     written(config, &mut area[..k])
 }
 
