@@ -1,0 +1,12 @@
+-- `vectors::memory::written` is safe and ends: the writer's number is below the unit of kinds. Assumes nothing.
+use Prim.Native.Nat.{◌<◌}
+use mathlib.Core.Path.{sym, subst}
+use Rattle.model.specs.Rewriting.{kind_unit, number_of_answer}
+use Rattle.model.specs.declared.Written.{Written}
+use Rattle.model.proofs.Rewriting.{write_number}
+use borrow.Author.Rules.{rules}
+use Rattle.vectors.proofs.memory.written.Goals as goal
+
+pub code_of-requires : goal.code_of-requires
+code_of-requires c =
+    subst (λ (w : Written). number_of_answer w < kind_unit) (sym c.write-w.ensures.value) (write_number _ _)
