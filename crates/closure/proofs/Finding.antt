@@ -13,7 +13,7 @@ use lib.ListN.{get_or, length, set, replicate}
 use lib.Seq.{get_or-set_same, get_or-set_other}
 use Rattle.model.specs.Config.{most_devices}
 use Rattle.model.specs.State.{State, device_in, object_in}
-use Rattle.model.proofs.Lists.{and_l, and_r, or_true, or_left, or_right, both_true, flip_true}
+use Rattle.model.proofs.Lists.{and_l, and_r, or_true, both_true, flip_true}
 use Rattle.scene.specs.Digits.{bit, Next, Has}
 use Rattle.scene.specs.Rules.{crossing, naming}
 use Rattle.scene.specs.Scene.{In}

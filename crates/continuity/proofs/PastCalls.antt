@@ -8,7 +8,7 @@ use lib.ListN.{length, replicate, length-append}
 use lib.Dec.{leb, eqb}
 use borrow.Author.Tests.{le-leb, eqb-true, eq-eqb}
 use Rattle.model.specs.Base.{all}
-use Rattle.model.specs.ConfigFile.{ask, load}
+use Rattle.model.specs.ConfigFile.{load}
 use Rattle.model.specs.State.{State, partition_count, records, area_length, layout, fresh}
 use Rattle.model.specs.Older.{no_locks, older_length}
 use Rattle.model.specs.Operation.{Parsed, family_of, read_operation}

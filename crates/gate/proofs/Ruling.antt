@@ -1,10 +1,10 @@
 -- Question 22 is a yes where it is not put. Assumes nothing.
 use Prim.Native.Nat.{ℕ}
 use mathlib.Core.Path.{◌≡◌, refl}
-use mathlib.Core.Bool.{Bool, true, false, not, ◌&&◌, ◌||◌, true≢false, false≢true}
+use mathlib.Core.Bool.{Bool, true, false, not, ◌&&◌, ◌||◌, true≢false}
 use borrow.Author.Tests.{not-true, not-false}
 use Rattle.model.specs.State.{State, green}
-use Rattle.model.specs.Questions.{zone_of, quiet_actor, q22}
+use Rattle.model.specs.Questions.{zone_of, q22}
 use Rattle.model.specs.declared.Family.{Family}
 use Rattle.model.specs.declared.Family.TheVariants.{
   Write,

@@ -1,9 +1,9 @@
 -- Laws of the stricter question 20, in the form in which the functions' proofs cite them; and that it is the model's.
 -- Assumes nothing.
 use Prim.Native.Nat.{ℕ, zero, suc, ◌+◌, ◌≤◌, ◌<◌}
-use mathlib.Core.Path.{◌≡◌, refl, sym, ap, ◌∙◌, subst}
+use mathlib.Core.Path.{◌≡◌, refl, sym, ap, ◌∙◌}
 use mathlib.Core.List.{List, [], ◌∷◌}
-use mathlib.Core.Bool.{Bool, true, false, not, cond, ◌&&◌, ◌||◌, true≢false, false≢true}
+use mathlib.Core.Bool.{Bool, true, false, not, cond, ◌&&◌, ◌||◌}
 use native.Mathlib.Decide.{ℕ_discrete}
 use native.Mathlib.Omega.{arith}
 use lib.ListN.{length, get_or, set, replicate, get_or-replicate}
@@ -11,7 +11,7 @@ use lib.Seq.{get_or-set_same, get_or-set_other}
 use lib.Dec.{eqb}
 use borrow.Author.Tests.{eq-eqb, ne_eqb, le-leb}
 use Rattle.model.specs.Base.{all, every}
-use Rattle.model.specs.Config.{kind_of, from1to, descriptor, Entry, entry_at, entries}
+use Rattle.model.specs.Config.{kind_of, descriptor, Entry, entry_at, entries}
 use Rattle.model.specs.State.{State, green, object_in, held, view}
 use Rattle.model.specs.Questions.{lets_go}
 use Rattle.model.specs.declared.Counts.{Counts}

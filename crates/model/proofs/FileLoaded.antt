@@ -1,10 +1,10 @@
 -- Request N1: the file of a configuration that was loaded is the file that it came from.
 use Prim.Native.Nat.{ℕ, ◌+◌, ◌≤◌, ◌<◌}
 use mathlib.Core.Path.{◌≡◌, refl, sym, ap, ◌∙◌, subst}
-use mathlib.Core.List.{List, [], ◌∷◌, ◌++◌, append-nil}
+use mathlib.Core.List.{List, [], ◌++◌, append-nil}
 use mathlib.Core.Bool.{Bool, true, false}
 use native.Mathlib.Omega.{arith}
-use lib.ListN.{length, get_or, drop}
+use lib.ListN.{length, drop}
 use lib.Seq.{drop-length}
 use lib.Dec.{eqb}
 use borrow.Author.Tests.{eqb-true}
@@ -66,7 +66,7 @@ use Rattle.model.proofs.GroupsWritten.{
   objects-written,
   values-written,
 }
-use Rattle.model.proofs.Rows.{EndAt, Ended, Written, list_5, row_head, row_width, row_written}
+use Rattle.model.proofs.Rows.{EndAt, Ended, Written, list_5, row_width, row_written}
 use Rattle.model.proofs.FileWritten.{few-counts, ranges_asked, written-told}
 use Rattle.model.proofs.FileTold.{told, told-zeros}
 

@@ -6,20 +6,17 @@ use mathlib.Core.List.{List, [], ◌∷◌}
 use mathlib.Core.Bool.{Bool, true, false, ◌&&◌, ◌||◌, cond, true≢false, false≢true}
 use native.Mathlib.Omega.{arith}
 use native.Mathlib.Decide.{dec_le}
-use lib.ListN.{length}
 use lib.Dec.{leb, eqb}
 use borrow.Author.Tests.{eqb-true, eq-eqb}
 use Rattle.model.specs.Base.{nth, put}
 use Rattle.model.specs.Config.{most_devices}
 use Rattle.model.specs.ConfigFile.{load}
-use Rattle.model.specs.State.{State, device_in, lock_of, unlocked, records, layout, view, well_formed}
-use Rattle.model.specs.Closure.{Reads, active}
+use Rattle.model.specs.State.{State, device_in, lock_of, unlocked, records, layout, view}
 use Rattle.model.specs.Operation.{family_of, actor_of, lock_code, unlock_code, read_operation}
 use Rattle.model.specs.Effect.{apply}
-use Rattle.model.specs.Questions.{q11}
-use Rattle.model.specs.Gate.{judged, make_fresh, operate}
+use Rattle.model.specs.Gate.{make_fresh, operate}
 use Rattle.model.specs.Separation.{Call, answers_of, area_after, after_call, operations_of, final}
-use Rattle.model.specs.Locks.{unlocks, KeptOut, LockedOut, LocksOut, LockedSince}
+use Rattle.model.specs.Locks.{unlocks, KeptOut, LocksOut, LockedSince}
 use Rattle.model.specs.declared.Family.{Family}
 use Rattle.model.specs.declared.Family.TheVariants.{
   Write,
@@ -35,18 +32,7 @@ use Rattle.model.specs.declared.Actor.{Actor}
 use Rattle.model.specs.declared.Actor.TheVariants.{Driver, Device, External}
 use Rattle.model.specs.declared.Config.{Config}
 use Rattle.model.specs.declared.Operation.{Operation}
-use Rattle.model.proofs.Lists.{
-  and_l,
-  and_r,
-  both_true,
-  or_true,
-  not_eqb,
-  from1to-low,
-  from1to-high,
-  nth_past,
-  nth-put-same,
-  nth-put_cases,
-}
+use Rattle.model.proofs.Lists.{and_r, both_true, or_true, not_eqb, from1to-low, from1to-high, nth_past, nth-put-same, nth-put_cases}
 use Rattle.model.proofs.ClosureLaws.{reads-active}
 use Rattle.model.proofs.Accepted.{Sound, load-sound}
 use Rattle.model.proofs.Facts.{Passed, passed}

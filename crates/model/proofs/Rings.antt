@@ -9,7 +9,6 @@ use native.Mathlib.Omega.{arith}
 use lib.ListN.{length}
 use lib.Dec.{leb, eqb}
 use borrow.Author.Tests.{eqb-true}
-use Rattle.model.specs.ConfigFile.{load}
 use Rattle.model.specs.State.{State}
 use Rattle.model.specs.Operation.{
   number,

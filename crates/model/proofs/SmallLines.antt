@@ -3,10 +3,10 @@ use Prim.Native.Nat.{ℕ, ◌≤◌}
 use mathlib.Core.Path.{◌≡◌, refl, sym, ap, ◌∙◌, subst}
 use mathlib.Core.List.{List, [], ◌∷◌}
 use mathlib.Core.Bool.{Bool, true, false, cond, ◌&&◌, true≢false}
-use native.Mathlib.Nat.{le_refl, le_trans}
+use native.Mathlib.Nat.{le_refl}
 use native.Mathlib.Omega.{arith}
 use lib.Dec.{leb}
-use borrow.Author.Tests.{leb-true, le-leb}
+use borrow.Author.Tests.{le-leb}
 use Rattle.model.specs.Number.{most_number, number_to}
 use Rattle.model.specs.Config.{
   most_drivers,
@@ -42,7 +42,7 @@ use Rattle.model.specs.declared.Head.{Head}
 use Rattle.model.specs.declared.Head.TheVariants.{Counted, Stopped}
 use Rattle.model.specs.declared.Counts.{Counts}
 use Rattle.model.specs.declared.Loaded.{Loaded}
-use Rattle.model.proofs.Lists.{and_l, and_r, both_true}
+use Rattle.model.proofs.Lists.{and_l, both_true}
 use Rattle.model.proofs.Accepted.{HeadTold, counts-told, groups_answered, head_latest, load-within}
 use Rattle.model.proofs.WiderFiles.{load-wider}
 use Rattle.model.proofs.Facts.{room_few}

@@ -1,10 +1,9 @@
 -- Document 02, N6: its example, and areas that break the rules of locks, computed.
-use Rattle.std.specs.Prelude.{ℕ, ◌≡◌, refl, List, [], ◌∷◌, ◌++◌, map, set, take, replicate}
-use Rattle.model.specs.State.{lock_place, device_place, room_for}
+use Rattle.std.specs.Prelude.{ℕ, ◌≡◌, refl, [], ◌∷◌, ◌++◌, map, set, take}
+use Rattle.model.specs.State.{lock_place, room_for}
 use Rattle.model.specs.Older.{no_locks, older_length}
 use Rattle.model.specs.Separation.{area_after}
 use Rattle.model.specs.Examples.{file_l, calling, fresh_l, session, bad_on}
-use Rattle.model.specs.declared.Written.{Written}
 use Rattle.model.specs.declared.Written.TheVariants.{Length, Refused}
 
 -- document 02, N6: a session with locks over file L

@@ -1,5 +1,5 @@
 -- Document 02, N6: a device that is locked stays in no partition.
-use Rattle.std.specs.Prelude.{ℕ, zero, suc, ◌≡◌, List, [], ◌∷◌, Bool, true, false, ◌&&◌, eqb}
+use Rattle.std.specs.Prelude.{ℕ, ◌≡◌, List, [], ◌∷◌, Bool, true, false, ◌&&◌, eqb}
 use Rattle.model.specs.ConfigFile.{load}
 use Rattle.model.specs.State.{State, device_in, lock_of}
 use Rattle.model.specs.Closure.{Reads}

@@ -14,7 +14,7 @@ use Rattle.model.specs.Base.{nth, put, number, below}
 use Rattle.model.specs.Config.{kind_of, class_of, owner_of, owns, from1to}
 use Rattle.model.specs.State.{most_partition, State, with_content, content_of, cleared}
 use Rattle.model.specs.Operation.{object_at, second_at}
-use Rattle.model.specs.Effect.{item_bytes, stores, source_bytes, concerned, placed, moved_to, clears, cleared_by, apply}
+use Rattle.model.specs.Effect.{item_bytes, stores, source_bytes, concerned, placed, moved_to, cleared_by, apply}
 use Rattle.model.specs.Questions.{q12, changed, is_object, actor_exists}
 use Rattle.sources.specs.CodeEffects.{
   StoresItems,

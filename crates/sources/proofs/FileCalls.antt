@@ -1,6 +1,6 @@
 -- The calls, the answers, the areas and the plain books of a file's source are those of the file.
 use Prim.Native.Nat.{ℕ}
-use mathlib.Core.Path.{◌≡◌, refl, ap, ◌∙◌}
+use mathlib.Core.Path.{refl, ap, ◌∙◌}
 use mathlib.Core.List.{List, [], ◌∷◌}
 use Rattle.model.specs.ConfigFile.{load}
 use Rattle.model.specs.Gate.{make_fresh, Outcome, operate}

@@ -2,7 +2,7 @@
 -- are asked for pass, by one law for each way in which readings are joined.
 use Prim.Native.Nat.{ℕ}
 use mathlib.Core.Path.{◌≡◌, refl}
-use mathlib.Core.List.{List, []}
+use mathlib.Core.List.{List}
 use Rattle.model.specs.Config.{blank}
 use Rattle.model.specs.ConfigFile.{
   Progress,

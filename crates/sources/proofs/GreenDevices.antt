@@ -7,7 +7,7 @@ use mathlib.Core.Bool.{Bool, true, false}
 use lib.Dec.{eqb}
 use native.Mathlib.Omega.{arith}
 use borrow.Author.Tests.{eqb-true}
-use Rattle.model.specs.Config.{kind_of, owns, from1to, descriptor, writes}
+use Rattle.model.specs.Config.{kind_of, owns, from1to}
 use Rattle.model.specs.State.{State, device_in, object_in, held, cleared, green}
 use Rattle.model.specs.Closure.{described}
 use Rattle.model.specs.Operation.{object_at, second_at, family_of, actor_of, read_operation}

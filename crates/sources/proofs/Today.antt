@@ -8,7 +8,7 @@ use native.Mathlib.Omega.{arith}
 use lib.Dec.{leb, eqb}
 use borrow.Author.Tests.{eqb-true, eqb-false, eq-eqb, ne_eqb, lt-leb}
 use Rattle.model.specs.Base.{below}
-use Rattle.model.specs.Config.{kind_of, owns, from1to, descriptor, hardcoded_to, reads, writes}
+use Rattle.model.specs.Config.{kind_of, owns, from1to, hardcoded_to, reads, writes}
 use Rattle.model.specs.State.{State, held, view, well_formed}
 use Rattle.model.specs.Closure.{active, live, described}
 use Rattle.model.specs.Operation.{

@@ -8,7 +8,7 @@ use lib.ListN.{length, get_or}
 use lib.Dec.{eqb}
 use borrow.Author.Tests.{eq-eqb}
 use Rattle.model.specs.Base.{nth}
-use Rattle.model.specs.Config.{kind_of, owner_of, hardcoded_of, owns, from1to, descriptor, hardcoded_to}
+use Rattle.model.specs.Config.{kind_of, owner_of, hardcoded_of, owns, from1to, hardcoded_to}
 use Rattle.model.specs.State.{content_bytes, State, device_in, object_in, content_of, held, cleared, value_bytes}
 use Rattle.model.specs.Closure.{active, live, Collected, Reads, start, stored}
 use Rattle.model.specs.Trace.{Transfer, fitting, Described, written_bytes, contents_after, after, Traces}

@@ -1,5 +1,5 @@
 -- Document 02, N6: a device that is locked stays in no partition.
-use Rattle.std.specs.Prelude.{ℕ, ◌≡◌, List, [], true}
+use Rattle.std.specs.Prelude.{ℕ, ◌≡◌, List, true}
 use Rattle.model.specs.State.{device_in, lock_of}
 use Rattle.model.specs.Closure.{Reads}
 use Rattle.model.specs.Operation.{lock_code, read_operation}

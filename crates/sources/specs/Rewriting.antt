@@ -1,5 +1,5 @@
 -- Request N1: a file that is loaded and written again, as C calls it and as the rewriting program does it.
-use Rattle.std.specs.Prelude.{ℕ, ◌≤◌, ◌<◌, ◌≡◌, List, [], ◌++◌, length, drop}
+use Rattle.std.specs.Prelude.{ℕ, ◌≤◌, ◌<◌, ◌≡◌, List, ◌++◌, length, drop}
 use Rattle.model.specs.ConfigFile.{load}
 use Rattle.model.specs.declared.Written.TheVariants.{Length, Short}
 use Rattle.model.specs.Rewriting.{coded}

@@ -2,10 +2,10 @@
 use Prim.Native.Nat.{ℕ, ◌+◌, ◌-◌, ◌≤◌, ◌<◌}
 use mathlib.Core.Path.{◌≡◌, refl, sym, ap, ◌∙◌}
 use mathlib.Core.List.{List, []}
-use mathlib.Core.Bool.{Bool, true, false, not, ◌&&◌, ◌||◌}
+use mathlib.Core.Bool.{Bool, true, false, not, ◌&&◌}
 use native.Mathlib.Omega.{arith}
-use lib.ListN.{length, get_or}
-use lib.Dec.{leb, eqb}
+use lib.ListN.{get_or}
+use lib.Dec.{eqb}
 use borrow.Author.Tests.{not-true, not-false, eqb-true, le-leb, lt-leb, eq-eqb, ne_eqb}
 use Rattle.model.specs.Base.{every}
 use Rattle.model.specs.Config.{most_devices}

@@ -1,7 +1,6 @@
 -- `config::blank_config` meets its contract: the record computes. Assumes nothing.
 use mathlib.Core.Path.{refl}
 use Rattle.model.specs.Config.{blank}
-use borrow.Author.Rules.{rules}
 use Rattle.config.proofs.blank_config.Goals as goal
 
 pub returns : goal.returns

@@ -1,7 +1,5 @@
 -- `config::first_no` meets its contract: by the two answers. Assumes nothing.
-use borrow.Author.Tests.{not-true, not-false}
 use Rattle.config.specs.Rest.{first_no}
-use borrow.Author.Rules.{rules}
 use Rattle.config.proofs.first_no.Goals as goal
 
 pub returns-then-not-a : goal.returns-then-not-a

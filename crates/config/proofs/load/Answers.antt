@@ -4,7 +4,6 @@ use mathlib.Core.Path.{refl, ◌∙◌}
 use Rattle.model.specs.ConfigFile.{objects_to, devices_to, values_to}
 use Rattle.config.proofs.Readers
 use Rattle.sound.proofs.Questions
-use borrow.Author.Rules.{rules}
 use Rattle.config.proofs.load.Goals as goal
 
 pub returns-in_default : goal.returns-in_default

@@ -1,6 +1,5 @@
 -- `config::refuse` meets its contract: the record computes. Assumes nothing.
 use Rattle.model.specs.ConfigFile.{refused}
-use borrow.Author.Rules.{rules}
 use Rattle.config.proofs.refuse.Goals as goal
 
 pub returns : goal.returns

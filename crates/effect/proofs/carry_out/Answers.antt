@@ -1,6 +1,6 @@
 -- `effect::carry_out` meets its contract: a law for each arm. Assumes nothing.
 use mathlib.Core.Path.{ap}
-use mathlib.Core.Logic.{⊎_elim, inl, inr}
+use mathlib.Core.Logic.{inl, inr}
 use Rattle.model.specs.Operation.{family_of}
 use Rattle.effect.proofs.Effects.{
   family_write,

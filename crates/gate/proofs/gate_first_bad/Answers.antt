@@ -1,11 +1,10 @@
 -- `gate::gate_first_bad` meets its contract: the file is refused, the area has another length, or the walk decides.
 -- Assumes nothing.
-use borrow.Author.Tests.{not-true, not-false, eqb-true}
+use borrow.Author.Tests.{eqb-true}
 use mathlib.Core.Path.{sym, ◌∙◌}
 use Rattle.state.proofs.Forms.{whole_walk}
 use Rattle.gate.proofs.Needed
 use Rattle.gate.proofs.Found
-use borrow.Author.Rules.{rules}
 use Rattle.gate.proofs.gate_first_bad.Goals as goal
 
 pub returns-then-loaded-ne0 : goal.returns-then-loaded-ne0

@@ -1,9 +1,8 @@
 -- `gate::gate_fresh` meets its contract: one law for each way out. Assumes nothing.
 use mathlib.Core.Path.{sym, ◌∙◌}
-use borrow.Author.Tests.{not-true, not-false, eqb-true}
+use borrow.Author.Tests.{eqb-true}
 use Rattle.gate.proofs.Fresh
 use Rattle.gate.proofs.Needed
-use borrow.Author.Rules.{rules}
 use Rattle.gate.proofs.gate_fresh.Goals as goal
 
 pub returns-then-loaded-ne0 : goal.returns-then-loaded-ne0

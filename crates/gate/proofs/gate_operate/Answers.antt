@@ -1,7 +1,6 @@
 -- `gate::gate_operate` meets its contract: the file is refused, or the call is carried out. Assumes nothing.
 use Rattle.searches.proofs.Readying
 use Rattle.gate.proofs.Calling
-use borrow.Author.Rules.{rules}
 use Rattle.gate.proofs.gate_operate.Goals as goal
 
 pub returns-then-loaded-ne0 : goal.returns-then-loaded-ne0

@@ -4,7 +4,6 @@ use mathlib.Core.Path.{sym, ap, subst, ◌∙◌}
 use Rattle.model.specs.Rewriting.{kind_unit, number_of_answer, coded}
 use Rattle.model.specs.declared.Written.{Written}
 use Rattle.model.proofs.Rewriting.{rewrite_number}
-use borrow.Author.Rules.{rules}
 use Rattle.gate.proofs.gate_rewrite.Goals as goal
 
 pub code_of-requires : goal.code_of-requires

@@ -1,6 +1,5 @@
 -- `gate::gate_state_bytes` meets its contract: the file is refused, or its line's area has a length. Assumes nothing.
 use Rattle.gate.proofs.Needed
-use borrow.Author.Rules.{rules}
 use Rattle.gate.proofs.gate_state_bytes.Goals as goal
 
 pub returns-then-loaded-ne0 : goal.returns-then-loaded-ne0

@@ -1,7 +1,6 @@
 -- `operation::read_operation` meets its contract: each way out is a law of the whole operation. Assumes nothing.
 use mathlib.Core.Path.{refl}
 use Rattle.operation.proofs.Parsing
-use borrow.Author.Rules.{rules}
 use Rattle.operation.proofs.read_operation.Goals as goal
 
 pub returns-in_default : goal.returns-in_default

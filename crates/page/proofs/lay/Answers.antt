@@ -2,7 +2,6 @@
 use mathlib.Core.Path.{sym}
 use mathlib.Core.List.{[], ◌∷◌}
 use Rattle.page.proofs.Laying
-use borrow.Author.Rules.{rules}
 use Rattle.page.proofs.lay.Goals as goal
 
 pub returns-then-at-out : goal.returns-then-at-out

@@ -1,6 +1,5 @@
 -- `page::put` meets its contract: there is room for the byte, or none. Assumes nothing.
 use Rattle.page.proofs.Laying
-use borrow.Author.Rules.{rules}
 use Rattle.page.proofs.put.Goals as goal
 
 pub returns-then-out-at : goal.returns-then-out-at

@@ -2,7 +2,6 @@
 use Rattle.model.specs.Office.{decimal}
 use mathlib.Core.List.{[], ◌∷◌}
 use Rattle.page.proofs.Laying.{then}
-use borrow.Author.Rules.{rules}
 use Rattle.page.proofs.put_line.Goals as goal
 
 pub returns : goal.returns

@@ -1,7 +1,6 @@
 -- `page::put_long` meets its contract: byte after byte. Assumes nothing.
 use mathlib.Core.List.{[], ◌∷◌}
 use Rattle.page.proofs.Laying.{then}
-use borrow.Author.Rules.{rules}
 use Rattle.page.proofs.put_long.Goals as goal
 
 pub returns : goal.returns

@@ -1,6 +1,5 @@
 -- `questions::judge` meets its contract: the first group ends it, or the second answers. Assumes nothing.
 use Rattle.questions.proofs.Judging
-use borrow.Author.Rules.{rules}
 use Rattle.questions.proofs.judge.Goals as goal
 
 pub returns-then-q-ne0 : goal.returns-then-q-ne0

@@ -1,6 +1,5 @@
 -- `report::put_from_fresh` meets its contract: the rows from a fresh state on. Assumes nothing.
 use Rattle.report.proofs.Reporting
-use borrow.Author.Rules.{rules}
 use Rattle.report.proofs.put_from_fresh.Goals as goal
 
 pub returns : goal.returns

@@ -1,7 +1,6 @@
 -- `report::put_session` meets its contract: the area that is lent has the length that the line needs. Assumes nothing.
 use mathlib.Core.Path.{refl}
 use Rattle.report.proofs.Reporting
-use borrow.Author.Rules.{rules}
 use Rattle.report.proofs.put_session.Goals as goal
 
 pub slice_bounds-area-end : goal.slice_bounds-area-end

@@ -1,6 +1,5 @@
 -- `report::report` meets its contract: one law for each way out. Assumes nothing.
 use Rattle.report.proofs.Reporting
-use borrow.Author.Rules.{rules}
 use Rattle.report.proofs.report.Goals as goal
 
 pub returns-then-line-gt-MOST_FILE : goal.returns-then-line-gt-MOST_FILE

@@ -1,9 +1,6 @@
 -- `sound::each_has_one` meets its contract: devices 1 to i have passed. Assumes nothing.
-use Prim.Native.Nat.{◌≤◌, ◌-◌}
 use borrow.Author.Tests.{eq-eqb, ne_eqb}
-use mathlib.Core.Bool.{true}
-use mathlib.Core.Path.{◌≡◌}
-use Rattle.sound.specs.Sound.{every_to, one_in}
+use Rattle.sound.specs.Sound.{one_in}
 use Rattle.sound.proofs.Questions
 use borrow.Author.Rules.{rules}
 use Rattle.sound.proofs.each_has_one.Goals as goal

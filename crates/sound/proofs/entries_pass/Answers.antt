@@ -1,10 +1,6 @@
 -- `sound::entries_pass` meets its contract: the entries from i on pass exactly if all do. Assumes nothing.
-use Prim.Native.Nat.{◌≤◌, ◌-◌, ◌+◌, ◌*◌}
 use native.Mathlib.Omega.{arith}
-use borrow.Author.Tests.{not-true, not-false}
-use mathlib.Core.Path.{◌≡◌, sym, ◌∙◌}
-use Rattle.sound.specs.Sound.{all_from, entry_passes}
-use Rattle.model.specs.Config.{entry_bytes}
+use mathlib.Core.Path.{sym, ◌∙◌}
 use Rattle.sound.proofs.Questions
 use borrow.Author.Rules.{rules}
 use Rattle.sound.proofs.entries_pass.Goals as goal

@@ -1,6 +1,5 @@
 -- `sound::entry_passes` meets its contract: the bytes that are looked at are the entry's. Assumes nothing.
 use Rattle.sound.specs.Sound.{entry_passes}
-use borrow.Author.Rules.{rules}
 use Rattle.sound.proofs.entry_passes.Goals as goal
 
 pub returns : goal.returns

@@ -1,12 +1,10 @@
 -- `sound::is_paired` meets its contract: objects 1 to i have passed and are counted. Assumes nothing.
-use Prim.Native.Nat.{suc, ◌+◌, ◌≤◌, ◌-◌}
+use Prim.Native.Nat.{suc, ◌+◌}
 use native.Mathlib.Omega.{arith}
-use borrow.Author.Tests.{not-true, not-false}
-use mathlib.Core.Bool.{true}
-use mathlib.Core.Path.{◌≡◌, sym, ap, subst, ◌∙◌}
+use mathlib.Core.Path.{sym, ap, subst, ◌∙◌}
 use lib.ListN.{length, get_or}
 use Rattle.model.specs.Config.{most_devices}
-use Rattle.sound.specs.Sound.{every_to, device_owned}
+use Rattle.sound.specs.Sound.{device_owned}
 use Rattle.sound.proofs.Questions
 use borrow.Author.Rules.{rules}
 use Rattle.sound.proofs.is_paired.Goals as goal

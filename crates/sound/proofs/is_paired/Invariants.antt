@@ -1,10 +1,8 @@
 -- `sound::is_paired` meets its contract: objects 1 to i have passed and are counted. Assumes nothing.
-use Prim.Native.Nat.{suc, ◌+◌, ◌≤◌, ◌-◌}
-use native.Mathlib.Omega.{arith}
-use borrow.Author.Tests.{not-true, not-false}
+use Prim.Native.Nat.{suc, ◌≤◌, ◌-◌}
 use mathlib.Core.Bool.{true}
-use mathlib.Core.Path.{◌≡◌, sym, ap, subst, ◌∙◌}
-use lib.ListN.{length, get_or}
+use mathlib.Core.Path.{◌≡◌}
+use lib.ListN.{length}
 use Rattle.model.specs.Config.{most_devices}
 use Rattle.sound.specs.Sound.{every_to, device_owned}
 use Rattle.sound.proofs.Questions

@@ -1,10 +1,8 @@
 -- `sound::is_restrained` meets its contract: devices 1 to i have passed. Assumes nothing.
 use Prim.Native.Nat.{◌≤◌, ◌-◌}
-use borrow.Author.Tests.{not-true, not-false}
 use mathlib.Core.Bool.{true}
-use mathlib.Core.Path.{◌≡◌, sym, ◌∙◌}
-use Rattle.sound.specs.Sound.{every_to, device_restrained, restrained_by}
-use Rattle.sound.proofs.Questions
+use mathlib.Core.Path.{◌≡◌}
+use Rattle.sound.specs.Sound.{every_to, device_restrained}
 use Rattle.sound.proofs.is_restrained.Given as goal
 
 abbrev pub invariant-loop-i : goal.invariant-loop-i

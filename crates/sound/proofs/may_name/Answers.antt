@@ -1,6 +1,5 @@
 -- `sound::may_name` meets its contract: one law for each way out. Assumes nothing.
 use Rattle.sound.proofs.Questions
-use borrow.Author.Rules.{rules}
 use Rattle.sound.proofs.may_name.Goals as goal
 
 pub returns-then-o-eq0 : goal.returns-then-o-eq0

@@ -2,7 +2,6 @@
 use native.Mathlib.Omega.{arith}
 use borrow.Author.Tests.{eq-eqb, ne_eqb}
 use Rattle.sound.proofs.Questions
-use borrow.Author.Rules.{rules}
 use Rattle.sound.proofs.note.Goals as goal
 
 pub returns-then-kind-ne-HARDCODED_KIND : goal.returns-then-kind-ne-HARDCODED_KIND

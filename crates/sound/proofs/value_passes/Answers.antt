@@ -1,7 +1,6 @@
 -- `sound::value_passes` meets its contract: value 0 has no entries. Assumes nothing.
 use native.Mathlib.Omega.{arith}
 use Rattle.sound.proofs.Questions
-use borrow.Author.Rules.{rules}
 use Rattle.sound.proofs.value_passes.Goals as goal
 
 pub returns-then-w-eq0 : goal.returns-then-w-eq0

@@ -1,6 +1,5 @@
 -- `varint::encode` meets its contract: one, two or three bytes. Assumes nothing.
 use Rattle.varint.proofs.Writing
-use borrow.Author.Rules.{rules}
 use Rattle.varint.proofs.encode.Goals as goal
 
 pub returns-then-v-lt-GROUP : goal.returns-then-v-lt-GROUP

@@ -1,13 +1,8 @@
 -- `varint::far_last` meets its contract. The invariant: the last byte's place counted from `i` is that counted from
 -- `at`. Assumes nothing.
-use Prim.Native.Nat.{◌+◌, ◌-◌}
-use mathlib.Core.Path.{◌≡◌}
 use native.Mathlib.Omega.{arith}
 use native.Mathlib.Numerals.{add-one}
-use lib.ListN.{length, drop}
-use Rattle.model.specs.Number.{lead}
 use Rattle.varint.proofs.Numbers.{lead-last, lead_more, lead_end}
-use borrow.Author.Rules.{rules}
 use Rattle.varint.proofs.far_last.Goals as goal
 
 pub returns-then-s-i-lt128 : goal.returns-then-s-i-lt128

@@ -2,11 +2,8 @@
 -- `at`. Assumes nothing.
 use Prim.Native.Nat.{◌+◌, ◌-◌}
 use mathlib.Core.Path.{◌≡◌}
-use native.Mathlib.Omega.{arith}
-use native.Mathlib.Numerals.{add-one}
 use lib.ListN.{length, drop}
 use Rattle.model.specs.Number.{lead}
-use Rattle.varint.proofs.Numbers.{lead-last, lead_more, lead_end}
 use Rattle.varint.proofs.far_last.Given as goal
 
 abbrev pub invariant-loop-i : goal.invariant-loop-i

@@ -1,7 +1,5 @@
 -- `varint::is_run` meets its contract: `all` tells of the first i bytes. Assumes nothing.
-use Prim.Native.Nat.{◌≤◌, ◌-◌}
-use mathlib.Core.Path.{◌≡◌, refl}
-use Rattle.varint.specs.Run.{run_bytes, high_run}
+use mathlib.Core.Path.{refl}
 use Rattle.varint.proofs.Numbers
 use borrow.Author.Rules.{rules}
 use Rattle.varint.proofs.is_run.Goals as goal

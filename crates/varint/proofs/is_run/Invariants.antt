@@ -1,8 +1,7 @@
 -- `varint::is_run` meets its contract: `all` tells of the first i bytes. Assumes nothing.
 use Prim.Native.Nat.{◌≤◌, ◌-◌}
-use mathlib.Core.Path.{◌≡◌, refl}
+use mathlib.Core.Path.{◌≡◌}
 use Rattle.varint.specs.Run.{run_bytes, high_run}
-use Rattle.varint.proofs.Numbers
 use Rattle.varint.proofs.is_run.Given as goal
 
 abbrev pub invariant-loop-i : goal.invariant-loop-i

@@ -1,11 +1,8 @@
 -- `varint::last` meets its contract. The invariant: the last byte's place counted from `i` is that counted from `at`.
 -- Assumes nothing.
-use Prim.Native.Nat.{◌≤◌, ◌+◌, ◌-◌}
-use mathlib.Core.Path.{◌≡◌, ◌∙◌}
+use mathlib.Core.Path.{◌∙◌}
 use native.Mathlib.Omega.{arith}
 use native.Mathlib.Numerals.{add-one}
-use lib.ListN.{drop}
-use Rattle.model.specs.Number.{most_bytes, lead}
 use Rattle.varint.proofs.Numbers.{lead-last, lead_more, lead_end}
 use borrow.Author.Rules.{rules}
 use Rattle.varint.proofs.last.Goals as goal

@@ -1,14 +1,8 @@
 -- `varint::long_number` meets its contract. At each `return` the tests that led there say which case of `number_at`
 -- holds; where the two tests of the last byte meet, one lemma says that the form is the shortest. Assumes nothing.
 use native.Mathlib.Omega.{arith}
-use mathlib.Core.Path.{◌≡◌, sym, ◌∙◌}
-use mathlib.Core.Bool.{true}
-use mathlib.Core.Logic.{⊎_elim}
-use Prim.Native.Nat.{◌-◌}
-use lib.ListN.{drop}
-use Rattle.model.specs.Number.{shortest}
+use mathlib.Core.Path.{sym, ◌∙◌}
 use Rattle.varint.proofs.Numbers
-use borrow.Author.Rules.{rules}
 use Rattle.varint.proofs.long_number.Goals as goal
 use Rattle.varint.proofs.long_number.Goals.{then-n-gt0+else-s-end-eq0, else-n-gt0}
 

@@ -1,12 +1,7 @@
 -- `varint::pass_runs` meets its contract, which is the loop's invariant. Assumes nothing.
-use Prim.Native.Nat.{◌+◌, ◌-◌}
-use mathlib.Core.Path.{◌≡◌, sym, ◌∙◌}
+use mathlib.Core.Path.{sym, ◌∙◌}
 use native.Mathlib.Omega.{arith}
-use borrow.Author.Tests.{not-false}
-use lib.ListN.{length, drop}
-use Rattle.model.specs.Number.{lead}
 use Rattle.varint.proofs.Numbers
-use borrow.Author.Rules.{rules}
 use Rattle.varint.proofs.pass_runs.Goals as goal
 
 pub overflow_add-i : goal.overflow_add-i

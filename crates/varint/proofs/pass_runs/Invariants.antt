@@ -1,11 +1,8 @@
 -- `varint::pass_runs` meets its contract, which is the loop's invariant. Assumes nothing.
 use Prim.Native.Nat.{◌+◌, ◌-◌}
-use mathlib.Core.Path.{◌≡◌, sym, ◌∙◌}
-use native.Mathlib.Omega.{arith}
-use borrow.Author.Tests.{not-false}
+use mathlib.Core.Path.{◌≡◌}
 use lib.ListN.{length, drop}
 use Rattle.model.specs.Number.{lead}
-use Rattle.varint.proofs.Numbers
 use Rattle.varint.proofs.pass_runs.Given as goal
 
 abbrev pub invariant-loop-i : goal.invariant-loop-i

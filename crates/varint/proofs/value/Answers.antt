@@ -4,7 +4,6 @@ use native.Mathlib.Omega.{arith}
 use Prim.Native.Nat.{◌+◌}
 use mathlib.Core.Path.{◌≡◌}
 use Rattle.varint.proofs.Numbers
-use borrow.Author.Rules.{rules}
 use Rattle.varint.proofs.value.Goals as goal
 
 pub returns-then-n-eq0 : goal.returns-then-n-eq0

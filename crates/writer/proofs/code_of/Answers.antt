@@ -1,7 +1,6 @@
 -- `writer::code_of` meets its contract: the kind's unit, and the number. Assumes nothing.
 use native.Mathlib.Omega.{arith}
 use Rattle.writer.proofs.Writing
-use borrow.Author.Rules.{rules}
 use Rattle.writer.proofs.code_of.Goals as goal
 
 pub overflow_add-result-in-Short : goal.overflow_add-result-in-Short

@@ -1,6 +1,5 @@
 -- `writer::rewrite` meets its contract: the load's refusal, or the writer's answer. Assumes nothing.
 use Rattle.writer.proofs.Writing
-use borrow.Author.Rules.{rules}
 use Rattle.writer.proofs.rewrite.Goals as goal
 
 pub returns-then-loaded-ne0 : goal.returns-then-loaded-ne0

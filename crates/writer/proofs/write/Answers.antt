@@ -1,6 +1,5 @@
 -- `writer::write` meets its contract: refused, too short, or put down. Assumes nothing.
 use Rattle.writer.proofs.Writing
-use borrow.Author.Rules.{rules}
 use Rattle.writer.proofs.write.Goals as goal
 
 pub returns-then-q-ne0 : goal.returns-then-q-ne0

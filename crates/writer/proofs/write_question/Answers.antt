@@ -1,8 +1,6 @@
 -- `writer::write_question` meets its contract: 3, then 5, then 6. Assumes nothing.
 use mathlib.Core.Path.{refl}
-use borrow.Author.Tests.{not-true, not-false}
 use Rattle.writer.proofs.Writing
-use borrow.Author.Rules.{rules}
 use Rattle.writer.proofs.write_question.Goals as goal
 
 pub returns-then-not-in_ranges : goal.returns-then-not-in_ranges

@@ -12,7 +12,6 @@ use Rattle.scene.specs.Scene.{Scene, scene_of, value_slots}
 use Rattle.scene.proofs.Digits.{some_bit}
 use Rattle.closure.proofs.Starting.{going_start}
 use Rattle.closure.proofs.Answering.{answers_none, answers_find}
-use borrow.Author.Rules.{rules}
 use Rattle.closure.proofs.answer.answer.Goals as goal
 
 abbrev scene : Counts → List ℕ → List ℕ → List ℕ → List ℕ → List ℕ → State → Devices → Scene

@@ -6,7 +6,6 @@ use Rattle.model.specs.State.{view}
 use Rattle.scene.specs.Scene.{search_config}
 use Rattle.scene.specs.Rules.{crossing}
 use Rattle.closure.proofs.Answering.{crossing-answer, crossing-entry}
-use borrow.Author.Rules.{rules}
 use Rattle.closure.proofs.answer.crossing.Goals as goal
 
 pub all_inside-fine-requires-clause-area_len : goal.all_inside-fine-requires-clause-area_len

@@ -5,7 +5,6 @@ use Rattle.model.specs.State.{view}
 use Rattle.scene.specs.Scene.{search_config}
 use Rattle.scene.specs.Rules.{naming}
 use Rattle.closure.proofs.Answering.{naming-answer, naming-entry}
-use borrow.Author.Rules.{rules}
 use Rattle.closure.proofs.answer.naming.Goals as goal
 
 pub all_unconcerned-fine-requires-clause-objects_le_most_objects :

@@ -2,13 +2,13 @@
 -- Assumes nothing.
 use lib.ListN.{length, length-set, length-replicate, get_or}
 use mathlib.Core.List.{List}
-use mathlib.Core.Path.{◌≡◌, sym, ap, subst, ◌∙◌}
+use mathlib.Core.Path.{sym, ap, subst, ◌∙◌}
 use native.Mathlib.Omega.{arith}
-use Prim.Native.Nat.{ℕ, ◌≤◌, ◌<◌, ◌-◌, ◌+◌}
+use Prim.Native.Nat.{ℕ, ◌<◌}
 use Rattle.model.specs.State.{view}
-use Rattle.scene.specs.Digits.{bit, Has}
-use Rattle.closure.specs.Words.{By, Covered, Sound, BegunAt}
-use Rattle.scene.specs.Scene.{Scene, starting, In, object_slots, value_slots}
+use Rattle.scene.specs.Digits.{Has}
+use Rattle.closure.specs.Words.{By, Covered, Sound}
+use Rattle.scene.specs.Scene.{starting, object_slots, value_slots}
 use Rattle.scene.proofs.Ranges.{owners_of}
 use Rattle.closure.proofs.Starting.{
   begin_more,
@@ -23,7 +23,6 @@ use Rattle.closure.proofs.Starting.{
 }
 use Rattle.scene.proofs.Widening.{no_digit}
 use Rattle.closure.proofs.Growing.{sound_set}
-use borrow.Author.Rules.{rules}
 use Rattle.closure.proofs.begin.begin.Goals as goal
 
 pub loop-o-init : goal.loop-o-init

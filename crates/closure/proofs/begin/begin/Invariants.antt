@@ -1,28 +1,12 @@
 -- `closure::begin::begin` meets its contract: the words below o are set, and their devices given to their values.
 -- Assumes nothing.
-use lib.ListN.{length, length-set, length-replicate, get_or}
-use mathlib.Core.List.{List}
-use mathlib.Core.Path.{◌≡◌, sym, ap, subst, ◌∙◌}
-use native.Mathlib.Omega.{arith}
+use lib.ListN.{length, get_or}
+use mathlib.Core.Path.{◌≡◌}
 use Prim.Native.Nat.{ℕ, ◌≤◌, ◌<◌, ◌-◌, ◌+◌}
 use Rattle.model.specs.State.{view}
 use Rattle.scene.specs.Digits.{bit, Has}
 use Rattle.closure.specs.Words.{By, Covered, Sound, BegunAt}
 use Rattle.scene.specs.Scene.{Scene, starting, In, object_slots, value_slots}
-use Rattle.scene.proofs.Ranges.{owners_of}
-use Rattle.closure.proofs.Starting.{
-  begin_more,
-  sound_none,
-  get_or_none,
-  by_none,
-  covers_none,
-  seed_by,
-  seed_covers,
-  seed_marked,
-  seed_zero,
-}
-use Rattle.scene.proofs.Widening.{no_digit}
-use Rattle.closure.proofs.Growing.{sound_set}
 use Rattle.closure.proofs.begin.begin.Given as goal
 
 abbrev pub invariant-loop-o : goal.invariant-loop-o

@@ -10,7 +10,6 @@ use Rattle.closure.specs.Words.{FirstWord}
 use Rattle.scene.specs.Scene.{starting}
 use Rattle.closure.proofs.Starting.{own-kind, first_word, value_none, value-above}
 use Rattle.scene.proofs.Ranges.{starts_never, holds_kind}
-use borrow.Author.Rules.{rules}
 use Rattle.closure.proofs.begin.first.Goals as goal
 
 pub value_of-requires-clause-area_ok : goal.value_of-requires-clause-area_ok

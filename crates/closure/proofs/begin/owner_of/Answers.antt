@@ -3,7 +3,6 @@
 use native.Mathlib.Omega.{arith}
 use Rattle.model.specs.State.{view}
 use Rattle.closure.proofs.Starting.{own-low, own-high, own_word}
-use borrow.Author.Rules.{rules}
 use Rattle.closure.proofs.begin.owner_of.Goals as goal
 
 pub returns-then-c-lt1 : goal.returns-then-c-lt1

@@ -6,7 +6,6 @@ use Rattle.model.specs.Config.{most_devices}
 use Rattle.scene.specs.Digits.{bit}
 use Rattle.closure.specs.Words.{Gave}
 use Rattle.closure.proofs.Giving.{gave_nobody}
-use borrow.Author.Rules.{rules}
 use Rattle.closure.proofs.begin.seed.Goals as goal
 
 -- no device is given

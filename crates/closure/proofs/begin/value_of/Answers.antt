@@ -5,7 +5,6 @@ use native.Mathlib.Omega.{arith}
 use Rattle.model.specs.State.{view}
 use Rattle.closure.proofs.Starting.{value_none, value_one}
 use Rattle.scene.proofs.Ranges.{starts_of, starts_not}
-use borrow.Author.Rules.{rules}
 use Rattle.closure.proofs.begin.value_of.Goals as goal
 
 pub returns-then-object_in-eq0 : goal.returns-then-object_in-eq0

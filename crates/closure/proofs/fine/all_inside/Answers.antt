@@ -1,14 +1,12 @@
 -- `closure::fine::all_inside` meets its contract: the words below o are set. Assumes nothing.
-use lib.ListN.{length, get_or, length-set, length-replicate}
-use mathlib.Core.Path.{◌≡◌, ◌∙◌}
+use lib.ListN.{length-set, length-replicate}
+use mathlib.Core.Path.{◌∙◌}
 use native.Mathlib.Omega.{arith}
-use Prim.Native.Nat.{ℕ, ◌≤◌, ◌<◌, ◌-◌, ◌+◌}
+use Prim.Native.Nat.{ℕ}
 use Rattle.model.specs.State.{view}
-use Rattle.closure.specs.Search.{FineWord}
 use Rattle.scene.specs.Scene.{object_slots}
 use Rattle.scene.specs.Rules.{crossing}
 use Rattle.closure.proofs.Finding.{fine_more}
-use borrow.Author.Rules.{rules}
 use Rattle.closure.proofs.fine.all_inside.Goals as goal
 
 pub loop-o-init : goal.loop-o-init

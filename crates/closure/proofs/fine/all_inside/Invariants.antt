@@ -1,13 +1,11 @@
 -- `closure::fine::all_inside` meets its contract: the words below o are set. Assumes nothing.
-use lib.ListN.{length, get_or, length-set, length-replicate}
-use mathlib.Core.Path.{◌≡◌, ◌∙◌}
-use native.Mathlib.Omega.{arith}
+use lib.ListN.{length, get_or}
+use mathlib.Core.Path.{◌≡◌}
 use Prim.Native.Nat.{ℕ, ◌≤◌, ◌<◌, ◌-◌, ◌+◌}
 use Rattle.model.specs.State.{view}
 use Rattle.closure.specs.Search.{FineWord}
 use Rattle.scene.specs.Scene.{object_slots}
 use Rattle.scene.specs.Rules.{crossing}
-use Rattle.closure.proofs.Finding.{fine_more}
 use Rattle.closure.proofs.fine.all_inside.Given as goal
 
 abbrev pub invariant-loop-o : goal.invariant-loop-o

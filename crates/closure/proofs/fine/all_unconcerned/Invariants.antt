@@ -1,13 +1,11 @@
 -- `closure::fine::all_unconcerned` meets its contract: the words below o are set. Assumes nothing.
-use lib.ListN.{length, get_or, length-set, length-replicate}
-use mathlib.Core.Path.{◌≡◌, ◌∙◌}
-use native.Mathlib.Omega.{arith}
+use lib.ListN.{length, get_or}
+use mathlib.Core.Path.{◌≡◌}
 use Prim.Native.Nat.{ℕ, ◌≤◌, ◌<◌, ◌-◌, ◌+◌}
 use Rattle.model.specs.Config.{most_devices}
 use Rattle.closure.specs.Search.{FineWord}
 use Rattle.scene.specs.Scene.{object_slots}
 use Rattle.scene.specs.Rules.{naming}
-use Rattle.closure.proofs.Finding.{fine_more, fine_unconcerned}
 use Rattle.closure.proofs.fine.all_unconcerned.Given as goal
 
 abbrev pub invariant-loop-o : goal.invariant-loop-o

@@ -2,7 +2,6 @@
 use mathlib.Core.Path.{◌∙◌}
 use Rattle.model.specs.State.{view}
 use Rattle.closure.proofs.Finding.{fine-inside}
-use borrow.Author.Rules.{rules}
 use Rattle.closure.proofs.fine.inside.Goals as goal
 
 pub returns : goal.returns

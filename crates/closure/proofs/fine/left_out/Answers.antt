@@ -1,7 +1,6 @@
 -- `closure::fine::left_out` meets its contract: one digit or none. Assumes nothing.
 use native.Mathlib.Omega.{arith}
 use Rattle.closure.proofs.Finding.{left_none, left_one, left-all}
-use borrow.Author.Rules.{rules}
 use Rattle.closure.proofs.fine.left_out.Goals as goal
 
 pub returns-then-but-lt1-clause-by_index : goal.returns-then-but-lt1-clause-by_index

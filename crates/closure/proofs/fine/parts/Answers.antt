@@ -1,12 +1,10 @@
 -- `closure::fine::parts` meets its contract: only devices below c are in, each in its partition. Assumes nothing.
-use lib.ListN.{length, length-set, length-replicate}
-use mathlib.Core.Path.{◌≡◌, ◌∙◌}
+use lib.ListN.{length-set, length-replicate}
+use mathlib.Core.Path.{◌∙◌}
 use native.Mathlib.Omega.{arith}
-use Prim.Native.Nat.{ℕ, ◌≤◌, ◌-◌, ◌+◌}
+use Prim.Native.Nat.{ℕ}
 use Rattle.model.specs.State.{view}
-use Rattle.closure.specs.Search.{Parts}
 use Rattle.closure.proofs.Finding.{parts_more, parts_none}
-use borrow.Author.Rules.{rules}
 use Rattle.closure.proofs.fine.parts.Goals as goal
 
 pub loop-c-init : goal.loop-c-init

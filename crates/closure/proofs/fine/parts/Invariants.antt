@@ -1,11 +1,9 @@
 -- `closure::fine::parts` meets its contract: only devices below c are in, each in its partition. Assumes nothing.
-use lib.ListN.{length, length-set, length-replicate}
-use mathlib.Core.Path.{◌≡◌, ◌∙◌}
-use native.Mathlib.Omega.{arith}
-use Prim.Native.Nat.{ℕ, ◌≤◌, ◌-◌, ◌+◌}
+use lib.ListN.{length}
+use mathlib.Core.Path.{◌≡◌}
+use Prim.Native.Nat.{◌≤◌, ◌-◌, ◌+◌}
 use Rattle.model.specs.State.{view}
 use Rattle.closure.specs.Search.{Parts}
-use Rattle.closure.proofs.Finding.{parts_more, parts_none}
 use Rattle.closure.proofs.fine.parts.Given as goal
 
 abbrev pub invariant-loop-c : goal.invariant-loop-c

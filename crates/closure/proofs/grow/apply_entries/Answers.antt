@@ -1,22 +1,19 @@
 -- `closure::grow::apply_entries` meets its contract: the entries before the place are applied, and name nothing
 -- strange. Assumes nothing.
-use lib.ListN.{length, get_or}
+use lib.ListN.{get_or}
 use mathlib.Core.Bool.{true}
 use mathlib.Core.Path.{◌≡◌, refl, sym, subst, ◌∙◌}
 use native.Mathlib.Omega.{arith}
 use mathlib.Core.List.{List}
-use Prim.Native.Nat.{ℕ, ◌≤◌, ◌<◌, ◌-◌, ◌+◌}
+use Prim.Native.Nat.{ℕ, ◌≤◌, ◌<◌, ◌+◌}
 use Rattle.model.specs.Config.{entry_place}
 use Rattle.model.specs.declared.Counts.{Counts}
 use Rattle.scene.specs.Digits.{Has}
-use Rattle.closure.specs.Words.{Grew, Each, Sound, EntriesIn}
-use Rattle.closure.specs.Search.{NoStrange}
-use Rattle.scene.specs.Scene.{Scene, following, ValuesOk, EntryOk, In, object_slots, value_slots}
+use Rattle.scene.specs.Scene.{Scene, following, ValuesOk, EntryOk, In}
 use Rattle.scene.proofs.Ranges.{entry_ok_lem}
 use Rattle.closure.proofs.Giving.{grew_none, grew_then}
 use Rattle.closure.proofs.Growing.{entry_in, entry-sound, entries_more, followed_at, strange_more}
 use Rattle.scene.proofs.Digits.{bit_zero, some_bit}
-use borrow.Author.Rules.{rules}
 use Rattle.closure.proofs.grow.apply_entries.Goals as goal
 
 -- in the loop entry j of the value is there

@@ -2,7 +2,6 @@
 use Rattle.model.specs.Config.{entry_at}
 use Rattle.closure.proofs.Giving.{grew_none, grew_then}
 use Rattle.closure.proofs.Growing.{followed_transfer, followed_hardcoded, followed_none}
-use borrow.Author.Rules.{rules}
 use Rattle.closure.proofs.grow.apply_entry.Goals as goal
 
 pub admit-d-requires-clause-known_len : goal.admit-d-requires-clause-known_len

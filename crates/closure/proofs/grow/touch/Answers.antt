@@ -10,7 +10,6 @@ use Rattle.scene.specs.Scene.{following}
 use Rattle.scene.proofs.Digits.{bit_zero}
 use Rattle.closure.proofs.Growing.{low_mod}
 use Rattle.closure.proofs.Turning.{fresh-each, going_none, suspected_of, going_some, fresh-slack}
-use borrow.Author.Rules.{rules}
 use Rattle.closure.proofs.grow.touch.Goals as goal
 
 pub returns-then-r-eq0-clause-known_len_2 : goal.returns-then-r-eq0-clause-known_len_2

@@ -4,15 +4,14 @@ use lib.ListN.{get_or}
 use mathlib.Core.Path.{◌≡◌, refl, subst}
 use borrow.Author.Count.{below_more}
 use native.Mathlib.Omega.{arith}
-use Prim.Native.Nat.{ℕ, ◌≤◌, ◌<◌, ◌-◌, ◌+◌}
+use Prim.Native.Nat.{ℕ, ◌≤◌, ◌-◌, ◌+◌}
 use Rattle.model.specs.Config.{entry_place}
-use Rattle.scene.specs.Digits.{Has, bit}
+use Rattle.scene.specs.Digits.{Has}
 use Rattle.closure.specs.Search.{PairFine}
-use Rattle.scene.specs.Scene.{In, EntryOk}
+use Rattle.scene.specs.Scene.{In}
 use Rattle.scene.proofs.Ranges.{entry_ok_lem}
 use Rattle.closure.proofs.Finding.{has_true, has_false, next-all}
 use Rattle.std.proofs.lemmas.Bool.{not_from_false, not_from_true}
-use borrow.Author.Rules.{rules}
 use Rattle.closure.proofs.search.find.Goals as goal
 
 pub search-init : goal.search-init

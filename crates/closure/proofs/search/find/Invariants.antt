@@ -1,16 +1,12 @@
 -- `closure::search::find` meets its contract: devices below i, descriptors below o and entries below j are clean.
 -- Assumes nothing.
 use lib.ListN.{get_or}
-use mathlib.Core.Path.{◌≡◌, refl, subst}
-use borrow.Author.Count.{below_more}
-use native.Mathlib.Omega.{arith}
+use mathlib.Core.Path.{◌≡◌}
 use Prim.Native.Nat.{ℕ, ◌≤◌, ◌<◌, ◌-◌, ◌+◌}
 use Rattle.model.specs.Config.{entry_place}
 use Rattle.scene.specs.Digits.{Has, bit}
 use Rattle.closure.specs.Search.{PairFine}
-use Rattle.scene.specs.Scene.{In, EntryOk}
-use Rattle.scene.proofs.Ranges.{entry_ok_lem}
-use Rattle.closure.proofs.Finding.{has_true, has_false, next-all}
+use Rattle.scene.specs.Scene.{In}
 use Rattle.closure.proofs.search.find.Given as goal
 
 abbrev pub invariant-loop-j : goal.invariant-loop-j

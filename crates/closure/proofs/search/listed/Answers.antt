@@ -4,7 +4,6 @@ use Prim.Native.Nat.{ℕ}
 use Rattle.closure.specs.Search.{Listed}
 use Rattle.closure.proofs.Finding.{listed_none, listed_some, has_true, has_false}
 use Rattle.std.proofs.lemmas.Bool.{not_from_false, not_from_true}
-use borrow.Author.Rules.{rules}
 use Rattle.closure.proofs.search.listed.Goals as goal
 
 pub returns-then-not-has : goal.returns-then-not-has

@@ -1,15 +1,10 @@
 -- `closure::settle::settle` meets its contract: each turn keeps what holds, and leaves less to do. Assumes nothing.
-use lib.ListN.{length}
 use mathlib.Core.Bool.{true}
-use mathlib.Core.Path.{◌≡◌}
-use Prim.Native.Nat.{ℕ, ◌<◌, ◌+◌, ◌*◌, ◌^◌}
+use Prim.Native.Nat.{ℕ, ◌<◌, ◌+◌, ◌*◌}
 use native.Mathlib.Omega.{arith}
-use Rattle.closure.specs.Words.{slack}
-use Rattle.closure.specs.Search.{Going}
-use Rattle.scene.specs.Scene.{Scene, following, object_slots, value_slots}
+use Rattle.scene.specs.Scene.{following}
 use Rattle.scene.proofs.Digits.{bit_zero}
 use Rattle.closure.proofs.Turning.{ended_of}
-use borrow.Author.Rules.{rules}
 use Rattle.closure.proofs.settle.settle.Goals as goal
 
 -- a turn leaves less to do, wherever it goes on from

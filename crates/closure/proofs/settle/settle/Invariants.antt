@@ -2,13 +2,10 @@
 use lib.ListN.{length}
 use mathlib.Core.Bool.{true}
 use mathlib.Core.Path.{◌≡◌}
-use Prim.Native.Nat.{ℕ, ◌<◌, ◌+◌, ◌*◌, ◌^◌}
-use native.Mathlib.Omega.{arith}
+use Prim.Native.Nat.{◌<◌, ◌+◌, ◌*◌, ◌^◌}
 use Rattle.closure.specs.Words.{slack}
 use Rattle.closure.specs.Search.{Going}
 use Rattle.scene.specs.Scene.{Scene, following, object_slots, value_slots}
-use Rattle.scene.proofs.Digits.{bit_zero}
-use Rattle.closure.proofs.Turning.{ended_of}
 use Rattle.closure.proofs.settle.settle.Given as goal
 
 abbrev pub invariant-loop-counts : goal.invariant-loop-counts

@@ -3,9 +3,7 @@
 use lib.ListN.{length}
 use Prim.Native.Nat.{◌<◌}
 use native.Mathlib.Omega.{arith}
-use borrow.Author.Tests.{not-true, not-false}
 use Rattle.closure.proofs.Giving.{grew_none, grew_admit, added_none, added_old, added_some}
-use borrow.Author.Rules.{rules}
 use Rattle.closure.proofs.spread.admit.Goals as goal
 
 pub returns-then-not-reading-clause-grew : goal.returns-then-not-reading-clause-grew

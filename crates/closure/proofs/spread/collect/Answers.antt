@@ -5,10 +5,8 @@ use lib.ListN.{length, get_or, set}
 use mathlib.Core.Path.{◌≡◌, subst}
 use Prim.Native.Nat.{ℕ, ◌<◌}
 use native.Mathlib.Omega.{arith}
-use borrow.Author.Tests.{not-true, not-false}
 use Rattle.closure.specs.Words.{Added}
 use Rattle.closure.proofs.Giving.{grew_none, grew_collect, added_none, added_old, added_some}
-use borrow.Author.Rules.{rules}
 use Rattle.closure.proofs.spread.collect.Goals as goal
 
 pub returns-then-not-writing-clause-grew : goal.returns-then-not-writing-clause-grew

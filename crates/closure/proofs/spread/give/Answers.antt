@@ -2,7 +2,6 @@
 -- nothing.
 use native.Mathlib.Omega.{arith}
 use Rattle.closure.proofs.Giving.{gave_none, gave_one}
-use borrow.Author.Rules.{rules}
 use Rattle.closure.proofs.spread.give.Goals as goal
 
 pub returns-then-new-old : goal.returns-then-new-old

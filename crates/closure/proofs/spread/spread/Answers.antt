@@ -1,13 +1,10 @@
 -- `closure::spread::spread` meets its contract: the values that are not in q were given the devices. Assumes nothing.
-use lib.ListN.{length}
-use mathlib.Core.Path.{◌≡◌, ◌∙◌}
+use mathlib.Core.Path.{◌∙◌}
 use native.Mathlib.Omega.{arith}
-use Prim.Native.Nat.{◌<◌, ◌^◌}
 use Rattle.model.specs.Config.{most_devices}
 use Rattle.scene.specs.Scene.{value_slots}
 use Rattle.scene.proofs.Digits.{high_bit, bit_below}
-use Rattle.closure.proofs.Giving.{Giving, giving_none, giving_more, giving_all}
-use borrow.Author.Rules.{rules}
+use Rattle.closure.proofs.Giving.{giving_none, giving_more, giving_all}
 use Rattle.closure.proofs.spread.spread.Goals as goal
 
 pub loop-q-init : goal.loop-q-init

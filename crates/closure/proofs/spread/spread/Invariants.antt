@@ -1,12 +1,9 @@
 -- `closure::spread::spread` meets its contract: the values that are not in q were given the devices. Assumes nothing.
 use lib.ListN.{length}
-use mathlib.Core.Path.{◌≡◌, ◌∙◌}
-use native.Mathlib.Omega.{arith}
+use mathlib.Core.Path.{◌≡◌}
 use Prim.Native.Nat.{◌<◌, ◌^◌}
-use Rattle.model.specs.Config.{most_devices}
 use Rattle.scene.specs.Scene.{value_slots}
-use Rattle.scene.proofs.Digits.{high_bit, bit_below}
-use Rattle.closure.proofs.Giving.{Giving, giving_none, giving_more, giving_all}
+use Rattle.closure.proofs.Giving.{Giving}
 use Rattle.closure.proofs.spread.spread.Given as goal
 
 abbrev pub invariant-loop-q : goal.invariant-loop-q

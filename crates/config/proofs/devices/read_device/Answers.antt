@@ -4,7 +4,6 @@ use mathlib.Core.Path.{refl, ap, ◌∙◌}
 use Rattle.model.specs.ConfigFile.{device_to, stop, read, set_device}
 use Rattle.config.specs.Readings.{as_field}
 use Rattle.config.proofs.Readers
-use borrow.Author.Rules.{rules}
 use Rattle.config.proofs.devices.read_device.Goals as goal
 
 pub returns-in_default : goal.returns-in_default

@@ -1,9 +1,6 @@
 -- `config::devices::read_devices` meets its contract: the turns from i on, from the place and the column as they are
 -- now, are those from the start. Assumes nothing.
-use Prim.Native.Nat.{◌≤◌, ◌-◌}
-use mathlib.Core.Path.{◌≡◌, sym, ◌∙◌}
-use Rattle.sound.specs.Columns.{devices_of}
-use Rattle.model.specs.ConfigFile.{turns, device}
+use mathlib.Core.Path.{sym, ◌∙◌}
 use Rattle.config.proofs.Readers
 use borrow.Author.Rules.{rules}
 use Rattle.config.proofs.devices.read_devices.Goals as goal

@@ -1,10 +1,9 @@
 -- `config::devices::read_devices` meets its contract: the turns from i on, from the place and the column as they are
 -- now, are those from the start. Assumes nothing.
 use Prim.Native.Nat.{◌≤◌, ◌-◌}
-use mathlib.Core.Path.{◌≡◌, sym, ◌∙◌}
+use mathlib.Core.Path.{◌≡◌}
 use Rattle.sound.specs.Columns.{devices_of}
 use Rattle.model.specs.ConfigFile.{turns, device}
-use Rattle.config.proofs.Readers
 use Rattle.config.proofs.devices.read_devices.Given as goal
 
 abbrev pub invariant-loop-i : goal.invariant-loop-i

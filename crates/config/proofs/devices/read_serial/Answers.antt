@@ -1,7 +1,6 @@
 -- `config::devices::read_serial` meets its contract: by the edition. Assumes nothing.
 use mathlib.Core.Path.{◌∙◌}
 use Rattle.config.proofs.Readers
-use borrow.Author.Rules.{rules}
 use Rattle.config.proofs.devices.read_serial.Goals as goal
 
 pub returns-then-edition-lt-SERIAL_EDITION : goal.returns-then-edition-lt-SERIAL_EDITION

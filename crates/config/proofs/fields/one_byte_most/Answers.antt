@@ -1,7 +1,6 @@
 -- `config::fields::one_byte_most` meets its contract: by the test. Assumes nothing.
 use borrow.Author.Tests.{lt-ltb, le-ltb}
 use Rattle.config.specs.Quick.{one_byte_most}
-use borrow.Author.Rules.{rules}
 use Rattle.config.proofs.fields.one_byte_most.Goals as goal
 
 pub returns-then-most-lt-ONE_BYTE : goal.returns-then-most-lt-ONE_BYTE

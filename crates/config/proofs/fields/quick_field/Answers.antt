@@ -1,7 +1,6 @@
 -- `config::fields::quick_field` meets its contract: one byte by the law `field_quick`, the rest is the callee's.
 -- Assumes nothing.
 use Rattle.config.proofs.Quick
-use borrow.Author.Rules.{rules}
 use Rattle.config.proofs.fields.quick_field.Goals as goal
 
 pub returns-then-b-high : goal.returns-then-b-high

@@ -1,7 +1,6 @@
 -- `config::fields::read_field` meets its contract: the laws of `field_at` go by what the number reader answered.
 -- Assumes nothing.
 use Rattle.config.proofs.Readers
-use borrow.Author.Rules.{rules}
 use Rattle.config.proofs.fields.read_field.Goals as goal
 
 pub returns-in_default : goal.returns-in_default

@@ -1,9 +1,7 @@
 -- `config::groups::counts_by_fields` meets its contract: each field that goes on is an `on_go`, the one that is refused
 -- an `on_stop`. Assumes nothing.
-use mathlib.Core.Path.{refl}
 use Rattle.model.specs.ConfigFile.{counts_to}
 use Rattle.config.proofs.Readers
-use borrow.Author.Rules.{rules}
 use Rattle.config.proofs.groups.counts_by_fields.Goals as goal
 
 pub returns-in_default : goal.returns-in_default

@@ -1,6 +1,5 @@
 -- `config::groups::counts_fit` meets its contract: the tests are the definition's. Assumes nothing.
 use Rattle.config.specs.Quick.{counts_fit}
-use borrow.Author.Rules.{rules}
 use Rattle.config.proofs.groups.counts_fit.Goals as goal
 
 pub returns : goal.returns

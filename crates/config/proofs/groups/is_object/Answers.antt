@@ -1,6 +1,5 @@
 -- `config::groups::is_object` meets its contract: the tests are the definition's. Assumes nothing.
 use Rattle.config.specs.Quick.{is_object}
-use borrow.Author.Rules.{rules}
 use Rattle.config.proofs.groups.is_object.Goals as goal
 
 pub returns : goal.returns

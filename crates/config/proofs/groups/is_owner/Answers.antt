@@ -1,6 +1,5 @@
 -- `config::groups::is_owner` meets its contract: by the class. Assumes nothing.
 use Rattle.config.proofs.Quick
-use borrow.Author.Rules.{rules}
 use Rattle.config.proofs.groups.is_owner.Goals as goal
 
 pub returns-then-c-eq-EXTERNAL_CLASS : goal.returns-then-c-eq-EXTERNAL_CLASS

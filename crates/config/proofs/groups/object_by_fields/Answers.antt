@@ -3,7 +3,6 @@
 use mathlib.Core.Path.{refl}
 use Rattle.model.specs.ConfigFile.{object_to, stop, read, set_object}
 use Rattle.config.proofs.Readers
-use borrow.Author.Rules.{rules}
 use Rattle.config.proofs.groups.object_by_fields.Goals as goal
 
 pub returns-in_default : goal.returns-in_default

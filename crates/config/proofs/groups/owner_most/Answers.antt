@@ -1,7 +1,6 @@
 -- `config::groups::owner_most` meets its contract: by the class. Assumes nothing.
 use borrow.Author.Tests.{eq-eqb, ne_eqb}
 use Rattle.model.specs.ConfigFile.{owner_most}
-use borrow.Author.Rules.{rules}
 use Rattle.config.proofs.groups.owner_most.Goals as goal
 
 pub returns-then-class-eq-EXTERNAL_CLASS : goal.returns-then-class-eq-EXTERNAL_CLASS

@@ -2,7 +2,6 @@
 -- Assumes nothing.
 use mathlib.Core.Path.{refl, sym, ◌∙◌}
 use Rattle.config.proofs.Quick
-use borrow.Author.Rules.{rules}
 use Rattle.config.proofs.groups.read_counts.Goals as goal
 
 pub returns-then-counts_fit : goal.returns-then-counts_fit

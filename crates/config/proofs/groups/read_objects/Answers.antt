@@ -1,9 +1,6 @@
 -- `config::groups::read_objects` meets its contract: the turns from i on, from the place and the columns as they are
 -- now, are those from the start. Assumes nothing.
-use Prim.Native.Nat.{◌≤◌, ◌-◌}
-use mathlib.Core.Path.{◌≡◌, sym, ◌∙◌}
-use Rattle.sound.specs.Columns.{objects_of}
-use Rattle.model.specs.ConfigFile.{turns, object}
+use mathlib.Core.Path.{sym, ◌∙◌}
 use Rattle.config.proofs.Readers
 use borrow.Author.Rules.{rules}
 use Rattle.config.proofs.groups.read_objects.Goals as goal

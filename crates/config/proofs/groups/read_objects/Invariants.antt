@@ -1,10 +1,9 @@
 -- `config::groups::read_objects` meets its contract: the turns from i on, from the place and the columns as they are
 -- now, are those from the start. Assumes nothing.
 use Prim.Native.Nat.{◌≤◌, ◌-◌}
-use mathlib.Core.Path.{◌≡◌, sym, ◌∙◌}
+use mathlib.Core.Path.{◌≡◌}
 use Rattle.sound.specs.Columns.{objects_of}
 use Rattle.model.specs.ConfigFile.{turns, object}
-use Rattle.config.proofs.Readers
 use Rattle.config.proofs.groups.read_objects.Given as goal
 
 abbrev pub invariant-loop-i : goal.invariant-loop-i

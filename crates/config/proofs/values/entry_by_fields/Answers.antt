@@ -3,7 +3,6 @@
 use native.Mathlib.Omega.{arith}
 use Rattle.model.specs.ConfigFile.{entry_to, stop, read, set_entry}
 use Rattle.config.proofs.Readers
-use borrow.Author.Rules.{rules}
 use Rattle.config.proofs.values.entry_by_fields.Goals as goal
 
 pub returns-in_default : goal.returns-in_default

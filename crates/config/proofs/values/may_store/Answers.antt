@@ -1,6 +1,5 @@
 -- `config::values::may_store` meets its contract: 0 is in every range. Assumes nothing.
 use Rattle.config.proofs.Quick
-use borrow.Author.Rules.{rules}
 use Rattle.config.proofs.values.may_store.Goals as goal
 
 pub returns-then-w-eq0 : goal.returns-then-w-eq0

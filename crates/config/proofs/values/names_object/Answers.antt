@@ -1,6 +1,5 @@
 -- `config::values::names_object` meets its contract: the tests are the definition's. Assumes nothing.
 use Rattle.config.specs.Quick.{names_object}
-use borrow.Author.Rules.{rules}
 use Rattle.config.proofs.values.names_object.Goals as goal
 
 pub returns : goal.returns

@@ -1,12 +1,7 @@
 -- `config::values::read_entries` meets its contract: the turns from i on, from the place and the table as they are
 -- now, are those from the start. Assumes nothing.
-use mathlib.Core.List.{List}
-use Prim.Native.Nat.{ℕ, ◌≤◌, ◌-◌, ◌+◌}
 use native.Mathlib.Omega.{arith}
-use mathlib.Core.Path.{◌≡◌, sym, ◌∙◌}
-use Rattle.sound.specs.Columns.{values_of}
-use Rattle.model.specs.Config.{entry_place}
-use Rattle.model.specs.ConfigFile.{turns, entry}
+use mathlib.Core.Path.{sym, ◌∙◌}
 use Rattle.config.proofs.Readers
 use borrow.Author.Rules.{rules}
 use Rattle.config.proofs.values.read_entries.Goals as goal

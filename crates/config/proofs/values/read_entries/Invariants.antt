@@ -2,12 +2,10 @@
 -- now, are those from the start. Assumes nothing.
 use mathlib.Core.List.{List}
 use Prim.Native.Nat.{ℕ, ◌≤◌, ◌-◌, ◌+◌}
-use native.Mathlib.Omega.{arith}
-use mathlib.Core.Path.{◌≡◌, sym, ◌∙◌}
+use mathlib.Core.Path.{◌≡◌}
 use Rattle.sound.specs.Columns.{values_of}
 use Rattle.model.specs.Config.{entry_place}
 use Rattle.model.specs.ConfigFile.{turns, entry}
-use Rattle.config.proofs.Readers
 use Rattle.config.proofs.values.read_entries.Given as goal
 
 abbrev pub invariant-loop-i : goal.invariant-loop-i

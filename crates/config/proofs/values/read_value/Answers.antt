@@ -1,7 +1,6 @@
 -- `config::values::read_value` meets its contract: the count goes on to its entries or is refused. Assumes nothing.
 use Rattle.model.specs.ConfigFile.{value_to, stop, set_count}
 use Rattle.config.proofs.Readers
-use borrow.Author.Rules.{rules}
 use Rattle.config.proofs.values.read_value.Goals as goal
 
 pub returns-in_default : goal.returns-in_default

@@ -1,9 +1,6 @@
 -- `config::values::read_values` meets its contract: the turns from i on, from the place and the columns as they are
 -- now, are those from the start. Assumes nothing.
-use Prim.Native.Nat.{◌≤◌, ◌-◌}
-use mathlib.Core.Path.{◌≡◌, sym, ◌∙◌}
-use Rattle.sound.specs.Columns.{values_of}
-use Rattle.model.specs.ConfigFile.{turns, value}
+use mathlib.Core.Path.{sym, ◌∙◌}
 use Rattle.config.proofs.Readers
 use borrow.Author.Rules.{rules}
 use Rattle.config.proofs.values.read_values.Goals as goal

@@ -1,10 +1,9 @@
 -- `config::values::read_values` meets its contract: the turns from i on, from the place and the columns as they are
 -- now, are those from the start. Assumes nothing.
 use Prim.Native.Nat.{◌≤◌, ◌-◌}
-use mathlib.Core.Path.{◌≡◌, sym, ◌∙◌}
+use mathlib.Core.Path.{◌≡◌}
 use Rattle.sound.specs.Columns.{values_of}
 use Rattle.model.specs.ConfigFile.{turns, value}
-use Rattle.config.proofs.Readers
 use Rattle.config.proofs.values.read_values.Given as goal
 
 abbrev pub invariant-loop-i : goal.invariant-loop-i

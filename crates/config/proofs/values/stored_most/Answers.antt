@@ -1,7 +1,6 @@
 -- `config::values::stored_most` meets its contract: by the object's kind and the mode. Assumes nothing.
 use borrow.Author.Tests.{eq-eqb, ne_eqb, le-leb, lt-leb}
 use Rattle.model.specs.ConfigFile.{stored_most}
-use borrow.Author.Rules.{rules}
 use Rattle.config.proofs.values.stored_most.Goals as goal
 
 pub returns-then-kinds-i-ne-TRANSFER_KIND : goal.returns-then-kinds-i-ne-TRANSFER_KIND

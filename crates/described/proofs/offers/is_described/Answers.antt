@@ -5,7 +5,6 @@ use Prim.Native.Nat.{ℕ}
 use mathlib.Core.List.{List}
 use native.Mathlib.Omega.{arith}
 use lib.ListN.{get_or}
-use borrow.Author.Tests.{not-true, not-false}
 use Rattle.scene.specs.Digits.{Without}
 use Rattle.scene.specs.Scene.{Scene, looking}
 use Rattle.described.specs.Today.{is_described}
@@ -16,7 +15,6 @@ use Rattle.described.proofs.Offering.{
   described_large,
   described-value,
 }
-use borrow.Author.Rules.{rules}
 use Rattle.described.proofs.offers.is_described.Goals as goal
 
 -- what is known of a read, or of a write, is known of the transfer that is asked for

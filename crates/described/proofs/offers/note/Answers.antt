@@ -2,7 +2,6 @@
 use mathlib.Core.Path.{◌∙◌}
 use Rattle.model.specs.Config.{entry_at}
 use Rattle.described.proofs.Offering.{noted_both}
-use borrow.Author.Rules.{rules}
 use Rattle.described.proofs.offers.note.Goals as goal
 
 pub note_read-requires-clause-entry_ok : goal.note_read-requires-clause-entry_ok

@@ -1,9 +1,7 @@
 -- `described::offers::note_read` meets its contract: the entry does not read, or the digit of a
 -- read is put. Assumes nothing.
 use mathlib.Core.Path.{refl, ◌∙◌, sym}
-use borrow.Author.Tests.{not-true, not-false}
 use Rattle.described.proofs.Offering.{put_none, put_if, put_same}
-use borrow.Author.Rules.{rules}
 use Rattle.described.proofs.offers.note_read.Goals as goal
 
 pub returns-then-not-is_reading : goal.returns-then-not-is_reading

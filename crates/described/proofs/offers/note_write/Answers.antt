@@ -1,9 +1,7 @@
 -- `described::offers::note_write` meets its contract: the entry does not write, or its
 -- stored value's digit is put. Assumes nothing.
 use mathlib.Core.Path.{◌∙◌, sym}
-use borrow.Author.Tests.{not-true, not-false}
 use Rattle.described.proofs.Offering.{put_none, put_if, put_same}
-use borrow.Author.Rules.{rules}
 use Rattle.described.proofs.offers.note_write.Goals as goal
 
 pub returns-then-not-is_writing : goal.returns-then-not-is_writing

@@ -1,7 +1,6 @@
 -- `described::offers::put` meets its contract: the digit is joined to the word. Assumes nothing.
 use native.Mathlib.Omega.{arith}
 use Rattle.described.proofs.Offering.{put_one}
-use borrow.Author.Rules.{rules}
 use Rattle.described.proofs.offers.put.Goals as goal
 
 pub returns : goal.returns

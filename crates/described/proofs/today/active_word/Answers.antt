@@ -6,7 +6,6 @@ use Rattle.model.specs.State.{view}
 use Rattle.model.proofs.Lists.{not-true}
 use Rattle.scene.proofs.Ranges.{starts_of, starts_not}
 use Rattle.described.proofs.Describing.{held_none, held_one}
-use borrow.Author.Rules.{rules}
 use Rattle.described.proofs.today.active_word.Goals as goal
 
 pub returns-then-object_in-eq0 : goal.returns-then-object_in-eq0

@@ -4,7 +4,6 @@ use Rattle.model.specs.State.{view}
 use Rattle.model.proofs.Lists.{not-true}
 use Rattle.scene.proofs.Ranges.{starts_never, holds_kind}
 use Rattle.described.proofs.Describing.{held_none}
-use borrow.Author.Rules.{rules}
 use Rattle.described.proofs.today.held_word.Goals as goal
 
 pub active_word-requires-clause-area_ok : goal.active_word-requires-clause-area_ok

@@ -1,21 +1,19 @@
 -- `described::today::offered` meets its contract: what is seen is read, and what is not to be done is followed and put
 -- down. Assumes nothing.
 use lib.Bits.{or_lt}
-use lib.ListN.{length}
 use mathlib.Core.Bool.{false}
 use mathlib.Core.Path.{◌≡◌, refl, ◌∙◌}
 use native.Mathlib.Omega.{arith}
-use Prim.Native.Nat.{ℕ, ◌≤◌, ◌<◌, ◌+◌, ◌-◌, ◌*◌, ◌^◌}
+use Prim.Native.Nat.{ℕ, ◌≤◌}
 use Rattle.model.specs.declared.Devices.{Devices}
 use Rattle.model.specs.State.{State, view}
 use Rattle.model.specs.declared.Counts.{Counts}
 use mathlib.Core.List.{List}
 use Rattle.scene.specs.Digits.{bit}
-use Rattle.scene.specs.Scene.{Scene, scene_of, object_slots}
+use Rattle.scene.specs.Scene.{Scene, scene_of}
 use Rattle.scene.proofs.Ranges.{owners_of}
-use Rattle.described.proofs.Describing.{Seeing, seeing_start, seeing_more, today_of_lem, today_none, today_less}
-use Rattle.described.proofs.Offering.{Noting, noting_start, noting_more, offered_none, offered_of}
-use borrow.Author.Rules.{rules}
+use Rattle.described.proofs.Describing.{seeing_start, seeing_more, today_of_lem, today_none, today_less}
+use Rattle.described.proofs.Offering.{noting_start, noting_more, offered_none, offered_of}
 use Rattle.described.proofs.today.offered.Goals as goal
 
 abbrev scene : Counts → List ℕ → List ℕ → List ℕ → List ℕ → List ℕ → State → Devices → Scene

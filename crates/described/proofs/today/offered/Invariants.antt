@@ -1,18 +1,14 @@
 -- `described::today::offered` meets its contract: what is seen is read, and what is not to be done is followed and put
 -- down. Assumes nothing.
-use lib.Bits.{or_lt}
 use lib.ListN.{length}
 use mathlib.Core.Bool.{false}
-use mathlib.Core.Path.{◌≡◌, refl, ◌∙◌}
-use native.Mathlib.Omega.{arith}
-use Prim.Native.Nat.{ℕ, ◌≤◌, ◌<◌, ◌+◌, ◌-◌, ◌*◌, ◌^◌}
+use mathlib.Core.Path.{◌≡◌}
+use Prim.Native.Nat.{◌<◌, ◌+◌, ◌-◌, ◌*◌, ◌^◌}
 use Rattle.model.specs.declared.Devices.{Devices}
 use Rattle.model.specs.State.{view}
-use Rattle.scene.specs.Digits.{bit}
-use Rattle.scene.specs.Scene.{Scene, scene_of, object_slots}
-use Rattle.scene.proofs.Ranges.{owners_of}
-use Rattle.described.proofs.Describing.{Seeing, seeing_start, seeing_more, today_of_lem, today_none, today_less}
-use Rattle.described.proofs.Offering.{Noting, noting_start, noting_more, offered_none, offered_of}
+use Rattle.scene.specs.Scene.{scene_of, object_slots}
+use Rattle.described.proofs.Describing.{Seeing}
+use Rattle.described.proofs.Offering.{Noting}
 use Rattle.described.proofs.today.offered.Given as goal
 
 abbrev pub invariant-loop-counts : goal.invariant-loop-counts

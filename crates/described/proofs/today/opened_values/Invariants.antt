@@ -1,17 +1,9 @@
 -- `described::today::opened_values` meets its contract: the entries below j are looked at and put down.
 -- Assumes nothing.
-use lib.ListN.{get_or}
-use mathlib.Core.Path.{◌≡◌, refl, subst, ◌∙◌}
-use native.Mathlib.Omega.{arith}
-use Prim.Native.Nat.{ℕ, ◌≤◌, ◌-◌, ◌+◌}
-use Rattle.model.specs.Config.{entry_place}
+use Prim.Native.Nat.{◌≤◌, ◌-◌, ◌+◌}
 use Rattle.model.specs.State.{view}
-use Rattle.scene.specs.Scene.{EntryOk, In}
 use Rattle.described.specs.Today.{OpenedBelow}
 use Rattle.described.specs.Offers.{NotedBelow}
-use Rattle.scene.proofs.Ranges.{entry_ok_lem}
-use Rattle.described.proofs.Describing.{opened-start, opened_more}
-use Rattle.described.proofs.Offering.{noted-start, noted_more}
 use Rattle.described.proofs.today.opened_values.Given as goal
 
 abbrev pub invariant-loop-j : goal.invariant-loop-j

@@ -1,11 +1,9 @@
 -- `described::today::opened_word` meets its contract: the entry does not read, or what it reads is looked at. Assumes
 -- nothing.
-use borrow.Author.Tests.{not-true, not-false}
 use mathlib.Core.Path.{sym, ◌∙◌}
 use Rattle.model.specs.State.{view}
 use Rattle.model.specs.Config.{entry_at}
 use Rattle.described.proofs.Describing.{opened_none, opened-held}
-use borrow.Author.Rules.{rules}
 use Rattle.described.proofs.today.opened_word.Goals as goal
 
 pub returns-then-not-is_reading : goal.returns-then-not-is_reading

@@ -1,10 +1,7 @@
 -- `described::today::owned_values` meets its contract: the objects below o are looked at. Assumes nothing.
-use mathlib.Core.Path.{◌≡◌, subst}
-use native.Mathlib.Omega.{arith}
-use Prim.Native.Nat.{ℕ, ◌≤◌, ◌-◌, ◌+◌}
+use Prim.Native.Nat.{◌≤◌, ◌-◌, ◌+◌}
 use Rattle.model.specs.State.{view}
 use Rattle.described.specs.Today.{OwnedWords}
-use Rattle.described.proofs.Describing.{owned-start, owned_more}
 use Rattle.described.proofs.today.owned_values.Given as goal
 
 abbrev pub invariant-loop-o : goal.invariant-loop-o

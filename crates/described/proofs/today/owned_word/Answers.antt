@@ -1,6 +1,5 @@
 -- `described::today::owned_word` meets its contract: the object is not the device's hardcoded descriptor, or it is.
 -- Assumes nothing.
-use borrow.Author.Tests.{not-true, not-false}
 use mathlib.Core.Bool.{false≢true}
 use mathlib.Core.List.{[]}
 use mathlib.Core.Path.{sym, ◌∙◌}
@@ -8,7 +7,6 @@ use Rattle.model.specs.State.{view}
 use Rattle.scene.specs.Scene.{search_config}
 use Rattle.scene.proofs.Ranges.{owned-kind}
 use Rattle.described.proofs.Describing.{owned_none, owned-held}
-use borrow.Author.Rules.{rules}
 use Rattle.described.proofs.today.owned_word.Goals as goal
 
 pub returns-then-kind-o-ne-HARDCODED_KIND : goal.returns-then-kind-o-ne-HARDCODED_KIND

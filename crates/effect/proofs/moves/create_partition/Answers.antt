@@ -1,6 +1,5 @@
 -- `effect::moves::create_partition` meets its contract: one status is set. Assumes nothing.
 use Rattle.effect.proofs.Moving.{created}
-use borrow.Author.Rules.{rules}
 use Rattle.effect.proofs.moves.create_partition.Goals as goal
 
 pub returns : goal.returns

@@ -1,7 +1,6 @@
 -- `effect::moves::created_status` meets its contract: the code is that of a green zone, or it is not. Assumes nothing.
 use borrow.Author.Tests.{eq-eqb, ne_eqb}
 use Rattle.model.specs.Operation.{green_code}
-use borrow.Author.Rules.{rules}
 use Rattle.effect.proofs.moves.created_status.Goals as goal
 
 pub returns-then-code-eq-GREEN_CODE : goal.returns-then-code-eq-GREEN_CODE

@@ -1,6 +1,5 @@
 -- `effect::moves::deactivate_device` meets its contract: the device's byte, then its objects. Assumes nothing.
 use Rattle.effect.proofs.Moving.{deactivated_device}
-use borrow.Author.Rules.{rules}
 use Rattle.effect.proofs.moves.deactivate_device.Goals as goal
 
 pub returns : goal.returns

@@ -1,6 +1,5 @@
 -- `effect::moves::is_clearable` meets its contract: a law for each way out. Assumes nothing.
 use Rattle.effect.proofs.Moving.{clear_none, clear_some}
-use borrow.Author.Rules.{rules}
 use Rattle.effect.proofs.moves.is_clearable.Goals as goal
 
 pub returns-then-not-clears : goal.returns-then-not-clears

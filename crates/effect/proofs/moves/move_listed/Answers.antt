@@ -1,9 +1,5 @@
 -- `effect::moves::move_listed` meets its contract: after i turns the first i of the list are moved. Assumes nothing.
-use Prim.Native.Nat.{◌-◌, ◌≤◌}
-use mathlib.Core.Path.{◌≡◌, refl}
-use lib.ListN.{length}
-use Rattle.model.specs.State.{view}
-use Rattle.effect.specs.Moves.{moved, listed}
+use mathlib.Core.Path.{refl}
 use Rattle.effect.proofs.Moving.{list_none, list_on, list_end}
 use borrow.Author.Rules.{rules}
 use Rattle.effect.proofs.moves.move_listed.Goals as goal

@@ -1,10 +1,9 @@
 -- `effect::moves::move_listed` meets its contract: after i turns the first i of the list are moved. Assumes nothing.
 use Prim.Native.Nat.{◌-◌, ◌≤◌}
-use mathlib.Core.Path.{◌≡◌, refl}
+use mathlib.Core.Path.{◌≡◌}
 use lib.ListN.{length}
 use Rattle.model.specs.State.{view}
 use Rattle.effect.specs.Moves.{moved, listed}
-use Rattle.effect.proofs.Moving.{list_none, list_on, list_end}
 use Rattle.effect.proofs.moves.move_listed.Given as goal
 
 abbrev pub invariant-loop-i : goal.invariant-loop-i

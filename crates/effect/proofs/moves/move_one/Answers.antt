@@ -1,6 +1,5 @@
 -- `effect::moves::move_one` meets its contract: a law for each way out. Assumes nothing.
 use Rattle.effect.proofs.Moving.{turn_none, turn_move, turn_clear}
-use borrow.Author.Rules.{rules}
 use Rattle.effect.proofs.moves.move_one.Goals as goal
 
 pub returns-then-not-hit : goal.returns-then-not-hit

@@ -1,12 +1,7 @@
 -- `effect::moves::move_owned` meets its contract: after i turns the first i objects are moved, and no record behind the
 -- last object is anybody's. Assumes nothing.
-use Prim.Native.Nat.{◌-◌, ◌≤◌}
-use mathlib.Core.Path.{◌≡◌, refl}
-use lib.ListN.{length}
-use Rattle.model.specs.State.{view}
-use Rattle.state.specs.Bytes.{Lesser}
-use Rattle.effect.specs.Moves.{owned_by}
-use Rattle.effect.proofs.Moving.{moved_to, move_none, move_within, move_owned_end}
+use mathlib.Core.Path.{refl}
+use Rattle.effect.proofs.Moving.{move_none, move_within, move_owned_end}
 use borrow.Author.Rules.{rules}
 use Rattle.effect.proofs.moves.move_owned.Goals as goal
 

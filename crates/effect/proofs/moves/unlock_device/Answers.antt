@@ -1,6 +1,5 @@
 -- `effect::moves::unlock_device` meets its contract: one lock is taken off. Assumes nothing.
 use Rattle.effect.proofs.Moving.{unlocked}
-use borrow.Author.Rules.{rules}
 use Rattle.effect.proofs.moves.unlock_device.Goals as goal
 
 pub returns : goal.returns

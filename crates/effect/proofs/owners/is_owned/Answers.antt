@@ -1,6 +1,5 @@
 -- `effect::owners::is_owned` meets its contract: the number and the bytes of both columns decide. Assumes nothing.
 use Rattle.effect.proofs.Moving.{owned_by_lem}
-use borrow.Author.Rules.{rules}
 use Rattle.effect.proofs.owners.is_owned.Goals as goal
 
 pub returns : goal.returns

@@ -1,7 +1,6 @@
 -- `effect::transfers::copy_contents` meets its contract: sources into the answer area, then from there to the
 -- destinations. Assumes nothing.
 use Rattle.effect.proofs.Carrying.{copy_answer, copy_whole}
-use borrow.Author.Rules.{rules}
 use Rattle.effect.proofs.transfers.copy_contents.Goals as goal
 
 pub returns-clause-area_after : goal.returns-clause-area_after

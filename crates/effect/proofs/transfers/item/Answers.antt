@@ -1,6 +1,5 @@
 -- `effect::transfers::item` meets its contract: a law for each form. Assumes nothing.
 use Rattle.effect.proofs.Carrying.{item-value, item_raw, item-small}
-use borrow.Author.Rules.{rules}
 use Rattle.effect.proofs.transfers.item.Goals as goal
 
 pub overflow_cast-v : goal.overflow_cast-v

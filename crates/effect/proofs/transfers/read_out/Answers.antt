@@ -1,11 +1,6 @@
 -- `effect::transfers::read_out` meets its contract: after i turns the contents of the first i sources are in the answer
 -- area. Assumes nothing.
-use Prim.Native.Nat.{◌-◌, ◌≤◌, ◌*◌}
-use mathlib.Core.Path.{◌≡◌, refl}
-use mathlib.Core.List.{◌++◌, []}
-use lib.ListN.{length, drop}
-use Rattle.model.specs.State.{content_bytes, view}
-use Rattle.effect.specs.Transfers.{operation_of, sources}
+use mathlib.Core.Path.{refl}
 use Rattle.effect.proofs.Carrying.{read_out_none, read_out_on, read_out_end}
 use borrow.Author.Rules.{rules}
 use Rattle.effect.proofs.transfers.read_out.Goals as goal

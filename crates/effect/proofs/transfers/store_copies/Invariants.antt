@@ -1,11 +1,10 @@
 -- `effect::transfers::store_copies` meets its contract: after i turns the first i destinations are stored.
 -- Assumes nothing.
 use Prim.Native.Nat.{◌-◌, ◌≤◌}
-use mathlib.Core.Path.{◌≡◌, refl}
+use mathlib.Core.Path.{◌≡◌}
 use lib.ListN.{length}
 use Rattle.model.specs.State.{view}
 use Rattle.effect.specs.Transfers.{restored}
-use Rattle.effect.proofs.Carrying.{store_copies_none, store_copies_on, store_copies_end}
 use Rattle.effect.proofs.transfers.store_copies.Given as goal
 
 abbrev pub invariant-loop-i : goal.invariant-loop-i

@@ -1,9 +1,5 @@
 -- `effect::transfers::write_list` meets its contract: after i turns the first i items are stored. Assumes nothing.
-use Prim.Native.Nat.{◌-◌, ◌≤◌}
-use mathlib.Core.Path.{◌≡◌, refl}
-use lib.ListN.{length}
-use Rattle.model.specs.State.{view}
-use Rattle.effect.specs.Transfers.{operation_of, written}
+use mathlib.Core.Path.{refl}
 use Rattle.effect.proofs.Carrying.{item-fits, write_none, write_on, write_end}
 use borrow.Author.Rules.{rules}
 use Rattle.effect.proofs.transfers.write_list.Goals as goal

@@ -1,10 +1,9 @@
 -- `effect::transfers::write_list` meets its contract: after i turns the first i items are stored. Assumes nothing.
 use Prim.Native.Nat.{◌-◌, ◌≤◌}
-use mathlib.Core.Path.{◌≡◌, refl}
+use mathlib.Core.Path.{◌≡◌}
 use lib.ListN.{length}
 use Rattle.model.specs.State.{view}
 use Rattle.effect.specs.Transfers.{operation_of, written}
-use Rattle.effect.proofs.Carrying.{item-fits, write_none, write_on, write_end}
 use Rattle.effect.proofs.transfers.write_list.Given as goal
 
 abbrev pub invariant-loop-i : goal.invariant-loop-i

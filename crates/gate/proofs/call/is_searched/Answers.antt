@@ -1,6 +1,5 @@
 -- `gate::call::is_searched` meets its contract: each test is the definition's. Assumes nothing.
 
-use borrow.Author.Rules.{rules}
 use Rattle.gate.proofs.call.is_searched.Goals as goal
 
 pub returns : goal.returns

@@ -1,10 +1,7 @@
 -- `gate::call::judge_all` meets its contract: one law for each way out. Assumes nothing.
-use borrow.Author.Tests.{not-true, not-false}
 use mathlib.Core.Path.{refl, sym, ◌∙◌}
-use mathlib.Core.Logic.{⊎_elim}
 use Rattle.gate.proofs.Ruling
 use Rattle.gate.proofs.Calling
-use borrow.Author.Rules.{rules}
 use Rattle.gate.proofs.call.judge_all.Goals as goal
 use Rattle.gate.proofs.call.judge_all.Goals.{then-is_ruled+else-not-keeps_green, else-is_ruled}
 

@@ -1,6 +1,5 @@
 -- `gate::call::next_number` meets its contract: a device is brought in, or not. Assumes nothing.
 
-use borrow.Author.Rules.{rules}
 use Rattle.gate.proofs.call.next_number.Goals as goal
 
 pub returns-then-is_entering : goal.returns-then-is_entering

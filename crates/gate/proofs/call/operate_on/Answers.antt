@@ -1,10 +1,9 @@
 -- `gate::call::operate_on` meets its contract: one law for each way out. Assumes nothing.
-use borrow.Author.Tests.{not-true, not-false, eqb-true}
+use borrow.Author.Tests.{eqb-true}
 use mathlib.Core.Path.{◌∙◌, sym}
 use Rattle.state.proofs.Forms.{whole-formed}
 use Rattle.searches.proofs.Readying
 use Rattle.gate.proofs.Calling
-use borrow.Author.Rules.{rules}
 use Rattle.gate.proofs.call.operate_on.Goals as goal
 
 pub right_length-requires : goal.right_length-requires

@@ -1,6 +1,5 @@
 -- `gate::zones::is_ruled` meets its contract: nothing is stored, a device acts, or by the zone. Assumes nothing.
 use Rattle.gate.proofs.Ruling
-use borrow.Author.Rules.{rules}
 use Rattle.gate.proofs.zones.is_ruled.Goals as goal
 
 pub returns-then-not-is_storing : goal.returns-then-not-is_storing

@@ -1,6 +1,5 @@
 -- `gate::zones::keeps_green` meets its contract: the rule looks at the columns that are lent. Assumes nothing.
 use Rattle.searches.proofs.Readying
-use borrow.Author.Rules.{rules}
 use Rattle.gate.proofs.zones.keeps_green.Goals as goal
 
 pub keeps_rule-requires-clause-area_len : goal.keeps_rule-requires-clause-area_len

@@ -1,6 +1,5 @@
 -- `green::rule::enters_keeping` meets its contract: a law for each way out. Assumes nothing.
 use Rattle.green.proofs.Ruling
-use borrow.Author.Rules.{rules}
 use Rattle.green.proofs.rule.enters_keeping.Goals as goal
 
 pub returns-then-not-is_by_device : goal.returns-then-not-is_by_device

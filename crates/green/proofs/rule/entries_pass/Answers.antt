@@ -1,13 +1,7 @@
 -- `green::rule::entries_pass` meets its contract: the entries from i on pass exactly if all do. Assumes nothing.
-use Prim.Native.Nat.{◌≤◌, ◌-◌, ◌+◌, ◌*◌}
-use mathlib.Core.Path.{◌≡◌, sym, ◌∙◌}
+use mathlib.Core.Path.{sym, ◌∙◌}
 use native.Mathlib.Omega.{arith}
-use borrow.Author.Tests.{not-true, not-false}
-use Rattle.model.specs.Config.{entry_bytes}
-use Rattle.model.specs.State.{view}
-use Rattle.sound.specs.Sound.{all_from}
 use Rattle.sound.proofs.Questions
-use Rattle.green.specs.Rule.{green_by}
 use Rattle.green.proofs.Ruling
 use borrow.Author.Rules.{rules}
 use Rattle.green.proofs.rule.entries_pass.Goals as goal

@@ -1,14 +1,10 @@
 -- `green::rule::entries_pass` meets its contract: the entries from i on pass exactly if all do. Assumes nothing.
 use Prim.Native.Nat.{◌≤◌, ◌-◌, ◌+◌, ◌*◌}
-use mathlib.Core.Path.{◌≡◌, sym, ◌∙◌}
-use native.Mathlib.Omega.{arith}
-use borrow.Author.Tests.{not-true, not-false}
+use mathlib.Core.Path.{◌≡◌}
 use Rattle.model.specs.Config.{entry_bytes}
 use Rattle.model.specs.State.{view}
 use Rattle.sound.specs.Sound.{all_from}
-use Rattle.sound.proofs.Questions
 use Rattle.green.specs.Rule.{green_by}
-use Rattle.green.proofs.Ruling
 use Rattle.green.proofs.rule.entries_pass.Given as goal
 
 abbrev pub invariant-loop-i : goal.invariant-loop-i

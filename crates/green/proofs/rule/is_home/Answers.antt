@@ -1,6 +1,5 @@
 -- `green::rule::is_home` meets its contract: anywhere, or by the object's partition and kind. Assumes nothing.
 use Rattle.green.proofs.Ruling
-use borrow.Author.Rules.{rules}
 use Rattle.green.proofs.rule.is_home.Goals as goal
 
 pub returns-then-anywhere : goal.returns-then-anywhere

@@ -1,6 +1,5 @@
 -- `green::rule::is_quiet` meets its contract: a kind other than 1, or the mode. Assumes nothing.
 use Rattle.green.proofs.Ruling
-use borrow.Author.Rules.{rules}
 use Rattle.green.proofs.rule.is_quiet.Goals as goal
 
 pub returns-then-byte_at-ne-TRANSFER_KIND : goal.returns-then-byte_at-ne-TRANSFER_KIND

@@ -1,6 +1,5 @@
 -- `green::rule::item_passes` meets its contract: a law for each way out of each family. Assumes nothing.
 use Rattle.green.proofs.Ruling
-use borrow.Author.Rules.{rules}
 use Rattle.green.proofs.rule.item_passes.Goals as goal
 
 pub returns-then-byte_at-ne-TRANSFER_KIND : goal.returns-then-byte_at-ne-TRANSFER_KIND

@@ -1,11 +1,5 @@
 -- `green::rule::items_pass` meets its contract: the items so far pass. Assumes nothing.
-use Prim.Native.Nat.{◌-◌, ◌≤◌}
-use mathlib.Core.Path.{◌≡◌}
-use mathlib.Core.Bool.{true}
-use Rattle.model.specs.State.{view}
-use Rattle.questions.specs.Items.{all_below}
 use Rattle.questions.proofs.Judging
-use Rattle.green.specs.Rule.{item_in}
 use Rattle.green.proofs.Ruling
 use Rattle.std.proofs.lemmas.Bool.{not_from_false, not_from_true}
 use borrow.Author.Rules.{rules}

@@ -4,9 +4,7 @@ use mathlib.Core.Path.{◌≡◌}
 use mathlib.Core.Bool.{true}
 use Rattle.model.specs.State.{view}
 use Rattle.questions.specs.Items.{all_below}
-use Rattle.questions.proofs.Judging
 use Rattle.green.specs.Rule.{item_in}
-use Rattle.green.proofs.Ruling
 use Rattle.green.proofs.rule.items_pass.Given as goal
 
 abbrev pub invariant-loop-i : goal.invariant-loop-i

@@ -1,6 +1,5 @@
 -- `green::rule::keeps_rule` meets its contract: a law for each family. Assumes nothing.
 use Rattle.green.proofs.Ruling
-use borrow.Author.Rules.{rules}
 use Rattle.green.proofs.rule.keeps_rule.Goals as goal
 
 pub returns-in-Write : goal.returns-in-Write

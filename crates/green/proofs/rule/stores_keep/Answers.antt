@@ -1,6 +1,5 @@
 -- `green::rule::stores_keep` meets its contract: a law for each way out. Assumes nothing.
 use Rattle.green.proofs.Ruling
-use borrow.Author.Rules.{rules}
 use Rattle.green.proofs.rule.stores_keep.Goals as goal
 
 pub returns-then-is_by_device : goal.returns-then-is_by_device

@@ -1,6 +1,5 @@
 -- `green::rule::value_passes` meets its contract: value 0 has no entries. Assumes nothing.
 use Rattle.sound.proofs.Questions
-use borrow.Author.Rules.{rules}
 use Rattle.green.proofs.rule.value_passes.Goals as goal
 
 pub returns-then-v-eq0 : goal.returns-then-v-eq0

@@ -1,6 +1,5 @@
 -- `green::rule::zone_of` meets its contract: a lookup for each actor. Assumes nothing.
 use Rattle.green.proofs.Ruling
-use borrow.Author.Rules.{rules}
 use Rattle.green.proofs.rule.zone_of.Goals as goal
 
 pub returns-in-Driver : goal.returns-in-Driver

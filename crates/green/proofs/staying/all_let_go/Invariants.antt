@@ -1,12 +1,9 @@
 -- `green::staying::all_let_go` meets its contract: the objects so far do. Assumes nothing.
 use Prim.Native.Nat.{◌-◌, ◌≤◌}
-use mathlib.Core.Path.{◌≡◌, sym, ◌∙◌}
+use mathlib.Core.Path.{◌≡◌}
 use mathlib.Core.Bool.{true}
-use native.Mathlib.Omega.{arith}
-use borrow.Author.Tests.{not-true, not-false}
 use Rattle.model.specs.State.{view}
 use Rattle.sound.specs.Sound.{every_to}
-use Rattle.sound.proofs.Questions
 use Rattle.green.specs.Rule.{goes_if}
 use Rattle.green.proofs.staying.all_let_go.Given as goal
 

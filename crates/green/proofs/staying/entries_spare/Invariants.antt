@@ -1,11 +1,8 @@
 -- `green::staying::entries_spare` meets its contract: the entries from i on pass exactly if all do. Assumes nothing.
 use Prim.Native.Nat.{◌≤◌, ◌-◌, ◌+◌, ◌*◌}
-use mathlib.Core.Path.{◌≡◌, sym, ◌∙◌}
-use native.Mathlib.Omega.{arith}
-use borrow.Author.Tests.{not-true, not-false}
+use mathlib.Core.Path.{◌≡◌}
 use Rattle.model.specs.Config.{entry_bytes}
 use Rattle.sound.specs.Sound.{all_from}
-use Rattle.sound.proofs.Questions
 use Rattle.green.specs.Rule.{spared_by}
 use Rattle.green.proofs.staying.entries_spare.Given as goal
 

@@ -1,6 +1,5 @@
 -- `green::staying::is_spared` meets its contract: the mark of the entry's object. Assumes nothing.
 use Rattle.green.proofs.Letting
-use borrow.Author.Rules.{rules}
 use Rattle.green.proofs.staying.is_spared.Goals as goal
 
 pub returns : goal.returns

@@ -2,7 +2,6 @@
 use mathlib.Core.Path.{refl, ◌∙◌}
 use Rattle.green.proofs.Letting
 use Rattle.std.proofs.lemmas.Bool.{not_from_false, not_from_true}
-use borrow.Author.Rules.{rules}
 use Rattle.green.proofs.staying.lets_go.Goals as goal
 
 pub returns-then-not-k-here : goal.returns-then-not-k-here

@@ -1,12 +1,11 @@
 -- `green::staying::mark_values` meets its contract: the values so far are marked. Assumes nothing.
-use Prim.Native.Nat.{ℕ, ◌≤◌, ◌-◌, suc}
+use Prim.Native.Nat.{ℕ, suc}
 use mathlib.Core.Path.{◌≡◌, ◌∙◌, subst}
 use native.Mathlib.Omega.{arith}
-use lib.ListN.{length, length-set, length-replicate}
+use lib.ListN.{length-set, length-replicate}
 use Rattle.model.specs.Config.{most_values}
 use Rattle.green.specs.Rule.{Spares}
 use Rattle.green.proofs.Letting
-use borrow.Author.Rules.{rules}
 use Rattle.green.proofs.staying.mark_values.Goals as goal
 
 pub loop-v-init : goal.loop-v-init

@@ -1,11 +1,9 @@
 -- `green::staying::mark_values` meets its contract: the values so far are marked. Assumes nothing.
-use Prim.Native.Nat.{ℕ, ◌≤◌, ◌-◌, suc}
-use mathlib.Core.Path.{◌≡◌, ◌∙◌, subst}
-use native.Mathlib.Omega.{arith}
-use lib.ListN.{length, length-set, length-replicate}
+use Prim.Native.Nat.{◌≤◌, ◌-◌, suc}
+use mathlib.Core.Path.{◌≡◌}
+use lib.ListN.{length}
 use Rattle.model.specs.Config.{most_values}
 use Rattle.green.specs.Rule.{Spares}
-use Rattle.green.proofs.Letting
 use Rattle.green.proofs.staying.mark_values.Given as goal
 
 abbrev pub invariant-loop-v : goal.invariant-loop-v

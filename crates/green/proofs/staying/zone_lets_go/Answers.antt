@@ -1,6 +1,5 @@
 -- `green::staying::zone_lets_go` meets its contract: the zone is green, or it is not. Assumes nothing.
 use Rattle.green.proofs.Letting
-use borrow.Author.Rules.{rules}
 use Rattle.green.proofs.staying.zone_lets_go.Goals as goal
 
 pub returns-then-not-is_green : goal.returns-then-not-is_green

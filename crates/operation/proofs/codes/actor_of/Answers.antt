@@ -1,7 +1,6 @@
 -- `operation::codes::actor_of` meets its contract: each arm of the match is a law of its codes. Assumes nothing.
 use native.Mathlib.Omega.{arith}
 use Rattle.operation.proofs.Parsing
-use borrow.Author.Rules.{rules}
 use Rattle.operation.proofs.codes.actor_of.Goals as goal
 
 pub returns-in-1 : goal.returns-in-1

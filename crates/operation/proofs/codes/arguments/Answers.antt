@@ -1,9 +1,7 @@
 -- `operation::codes::arguments` meets its contract: each arm of the match is a law of its codes. Assumes nothing.
-use mathlib.Core.Path.{◌≡◌}
 use native.Mathlib.Omega.{arith}
-use mathlib.Core.Logic.{⊎_elim, inl, inr}
+use mathlib.Core.Logic.{inl, inr}
 use Rattle.operation.proofs.Parsing
-use borrow.Author.Rules.{rules}
 use Rattle.operation.proofs.codes.arguments.Goals as goal
 use Rattle.operation.proofs.codes.arguments.Goals.{in_default-via-then-code-lt1}
 use Rattle.operation.proofs.codes.arguments.Goals.{

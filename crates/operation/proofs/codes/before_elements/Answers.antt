@@ -1,6 +1,5 @@
 -- `operation::codes::before_elements` meets its contract: each arm of the match is the definition's. Assumes nothing.
 use Rattle.operation.specs.Elements.{before_elements}
-use borrow.Author.Rules.{rules}
 use Rattle.operation.proofs.codes.before_elements.Goals as goal
 
 pub returns-in-Item : goal.returns-in-Item

@@ -1,9 +1,7 @@
 -- `operation::codes::family_of` meets its contract: each arm of the match is a law of its codes. Assumes nothing.
-use mathlib.Core.Path.{◌≡◌}
 use mathlib.Core.Logic.{inl, inr}
 use native.Mathlib.Omega.{arith}
 use Rattle.operation.proofs.Parsing
-use borrow.Author.Rules.{rules}
 use Rattle.operation.proofs.codes.family_of.Goals as goal
 
 pub returns-in-5 : goal.returns-in-5

@@ -2,7 +2,6 @@
 -- nothing.
 use Rattle.model.specs.Operation.{activating_by}
 use Rattle.operation.proofs.Parsing
-use borrow.Author.Rules.{rules}
 use Rattle.operation.proofs.codes.read_activation.Goals as goal
 
 pub returns-in_default : goal.returns-in_default

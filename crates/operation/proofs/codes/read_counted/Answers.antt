@@ -2,7 +2,6 @@
 -- Assumes nothing.
 use Rattle.operation.specs.Elements.{counted}
 use Rattle.operation.proofs.Parsing
-use borrow.Author.Rules.{rules}
 use Rattle.operation.proofs.codes.read_counted.Goals as goal
 
 pub returns-in_default : goal.returns-in_default

@@ -1,7 +1,6 @@
 -- `operation::codes::read_deactivation` meets its contract: the subject goes on or is refused. Assumes nothing.
 use Rattle.model.specs.Operation.{deactivating_by}
 use Rattle.operation.proofs.Parsing
-use borrow.Author.Rules.{rules}
 use Rattle.operation.proofs.codes.read_deactivation.Goals as goal
 
 pub returns-in_default : goal.returns-in_default

@@ -1,7 +1,6 @@
 -- `operation::codes::read_partition` meets its contract: the partition goes on or is refused. Assumes nothing.
 use Rattle.model.specs.Operation.{partitioning_by}
 use Rattle.operation.proofs.Parsing
-use borrow.Author.Rules.{rules}
 use Rattle.operation.proofs.codes.read_partition.Goals as goal
 
 pub returns-in_default : goal.returns-in_default

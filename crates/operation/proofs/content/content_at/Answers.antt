@@ -1,6 +1,5 @@
 -- `operation::content::content_at` meets its contract: the bytes are too few, or they are copied. Assumes nothing.
 use Rattle.operation.proofs.Raw
-use borrow.Author.Rules.{rules}
 use Rattle.operation.proofs.content.content_at.Goals as goal
 
 pub returns-then-not-has_content : goal.returns-then-not-has_content

@@ -1,9 +1,4 @@
 -- `operation::content::copied` meets its contract: after k turns k bytes are copied. Assumes nothing.
-use mathlib.Core.Path.{◌≡◌}
-use Prim.Native.Nat.{◌-◌, ◌≤◌}
-use lib.ListN.{length, take, drop}
-use lib.Seq.{sets}
-use Rattle.model.specs.State.{content_bytes}
 use Rattle.operation.proofs.Raw
 use borrow.Author.Rules.{rules}
 use Rattle.operation.proofs.content.copied.Goals as goal

@@ -4,7 +4,6 @@ use Prim.Native.Nat.{◌-◌, ◌≤◌}
 use lib.ListN.{length, take, drop}
 use lib.Seq.{sets}
 use Rattle.model.specs.State.{content_bytes}
-use Rattle.operation.proofs.Raw
 use Rattle.operation.proofs.content.copied.Given as goal
 
 abbrev pub invariant-loop-k : goal.invariant-loop-k

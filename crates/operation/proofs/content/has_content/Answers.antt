@@ -1,7 +1,6 @@
 -- `operation::content::has_content` meets its contract: past the end there is no room, before it the rest is measured.
 -- Assumes nothing.
 use Rattle.operation.proofs.Raw
-use borrow.Author.Rules.{rules}
 use Rattle.operation.proofs.content.has_content.Goals as goal
 
 pub returns-then-s-at : goal.returns-then-s-at

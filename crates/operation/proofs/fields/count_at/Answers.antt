@@ -1,6 +1,5 @@
 -- `operation::fields::count_at` meets its contract: each way out is a law of a count. Assumes nothing.
 use Rattle.operation.proofs.Parsing
-use borrow.Author.Rules.{rules}
 use Rattle.operation.proofs.fields.count_at.Goals as goal
 
 pub returns-in_default : goal.returns-in_default

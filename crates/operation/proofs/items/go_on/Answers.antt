@@ -1,7 +1,6 @@
 -- `operation::items::go_on` meets its contract: the struct computes to `read`. Assumes nothing.
 use mathlib.Core.Path.{refl}
 use Rattle.model.specs.Operation.{read}
-use borrow.Author.Rules.{rules}
 use Rattle.operation.proofs.items.go_on.Goals as goal
 
 pub returns : goal.returns

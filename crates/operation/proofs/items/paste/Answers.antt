@@ -1,10 +1,4 @@
 -- `operation::items::paste` meets its contract: after k turns k bytes are pasted. Assumes nothing.
-use mathlib.Core.Path.{◌≡◌}
-use Prim.Native.Nat.{◌-◌, ◌*◌, ◌≤◌}
-use lib.ListN.{length, take}
-use lib.Seq.{sets}
-use Rattle.model.specs.State.{content_bytes}
-use Rattle.model.specs.Operation.{most_items}
 use Rattle.operation.proofs.Raw
 use borrow.Author.Rules.{rules}
 use Rattle.operation.proofs.items.paste.Goals as goal

@@ -5,7 +5,6 @@ use lib.ListN.{length, take}
 use lib.Seq.{sets}
 use Rattle.model.specs.State.{content_bytes}
 use Rattle.model.specs.Operation.{most_items}
-use Rattle.operation.proofs.Raw
 use Rattle.operation.proofs.items.paste.Given as goal
 
 abbrev pub invariant-loop-k : goal.invariant-loop-k

@@ -1,6 +1,5 @@
 -- `operation::items::read_element` meets its contract: each arm of the match is the definition's. Assumes nothing.
 use Rattle.operation.specs.Elements.{element}
-use borrow.Author.Rules.{rules}
 use Rattle.operation.proofs.items.read_element.Goals as goal
 
 pub returns-in-Item : goal.returns-in-Item

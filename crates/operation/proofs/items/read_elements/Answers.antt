@@ -1,9 +1,6 @@
 -- `operation::items::read_elements` meets its contract: what is left of the elements gives what all of them give.
 -- Assumes nothing.
-use mathlib.Core.Path.{◌≡◌, sym, ◌∙◌}
-use Prim.Native.Nat.{◌-◌, ◌≤◌}
-use Rattle.model.specs.Operation.{turns}
-use Rattle.operation.specs.Elements.{element}
+use mathlib.Core.Path.{sym, ◌∙◌}
 use Rattle.operation.proofs.Parsing
 use borrow.Author.Rules.{rules}
 use Rattle.operation.proofs.items.read_elements.Goals as goal

@@ -1,10 +1,9 @@
 -- `operation::items::read_elements` meets its contract: what is left of the elements gives what all of them give.
 -- Assumes nothing.
-use mathlib.Core.Path.{◌≡◌, sym, ◌∙◌}
+use mathlib.Core.Path.{◌≡◌}
 use Prim.Native.Nat.{◌-◌, ◌≤◌}
 use Rattle.model.specs.Operation.{turns}
 use Rattle.operation.specs.Elements.{element}
-use Rattle.operation.proofs.Parsing
 use Rattle.operation.proofs.items.read_elements.Given as goal
 
 abbrev pub invariant-loop-i : goal.invariant-loop-i

@@ -3,7 +3,6 @@
 use mathlib.Core.Path.{◌∙◌}
 use native.Mathlib.Omega.{arith}
 use Rattle.operation.proofs.Raw
-use borrow.Author.Rules.{rules}
 use Rattle.operation.proofs.items.read_raw.Goals as goal
 
 pub returns-then-not-content : goal.returns-then-not-content

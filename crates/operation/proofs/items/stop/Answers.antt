@@ -1,6 +1,5 @@
 -- `operation::items::stop` meets its contract: the struct computes to `refused`. Assumes nothing.
 use Rattle.model.specs.Operation.{refused}
-use borrow.Author.Rules.{rules}
 use Rattle.operation.proofs.items.stop.Goals as goal
 
 pub returns : goal.returns

@@ -1,7 +1,6 @@
 -- `operation::items::with_head` meets its contract: the struct computes to `with_head`. Assumes nothing.
 use mathlib.Core.Path.{refl}
 use Rattle.model.specs.Operation.{with_head}
-use borrow.Author.Rules.{rules}
 use Rattle.operation.proofs.items.with_head.Goals as goal
 
 pub returns : goal.returns

@@ -1,7 +1,6 @@
 -- `operation::items::with_item_lem` meets its contract: the stores compute to `with_item`. Assumes nothing.
 use mathlib.Core.Path.{refl}
 use Rattle.model.specs.Operation.{with_item}
-use borrow.Author.Rules.{rules}
 use Rattle.operation.proofs.items.with_item.Goals as goal
 
 pub returns : goal.returns

@@ -1,6 +1,5 @@
 -- `questions::names::actor_named` meets its contract: each arm of the match is the definition's. Assumes nothing.
 
-use borrow.Author.Rules.{rules}
 use Rattle.questions.proofs.names.actor_named.Goals as goal
 
 pub returns-in-Driver : goal.returns-in-Driver

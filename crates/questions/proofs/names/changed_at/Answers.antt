@@ -1,6 +1,5 @@
 -- `questions::names::changed_at` meets its contract: each arm of the match is the definition's. Assumes nothing.
 
-use borrow.Author.Rules.{rules}
 use Rattle.questions.proofs.names.changed_at.Goals as goal
 
 pub returns-in-Write : goal.returns-in-Write

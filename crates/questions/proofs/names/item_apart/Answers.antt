@@ -1,8 +1,5 @@
 -- `questions::names::item_apart` meets its contract: the items so far change another object. Assumes nothing.
-use mathlib.Core.Path.{◌≡◌}
-use mathlib.Core.Bool.{true}
-use Prim.Native.Nat.{◌-◌, ◌≤◌}
-use Rattle.questions.specs.Items.{all_below, changed_in, differs, apart}
+use Rattle.questions.specs.Items.{apart}
 use Rattle.questions.proofs.Judging
 use Rattle.std.proofs.lemmas.Bool.{not_from_false, not_from_true}
 use borrow.Author.Rules.{rules}

@@ -2,8 +2,7 @@
 use mathlib.Core.Path.{◌≡◌}
 use mathlib.Core.Bool.{true}
 use Prim.Native.Nat.{◌-◌, ◌≤◌}
-use Rattle.questions.specs.Items.{all_below, changed_in, differs, apart}
-use Rattle.questions.proofs.Judging
+use Rattle.questions.specs.Items.{all_below, changed_in, differs}
 use Rattle.questions.proofs.names.item_apart.Given as goal
 
 abbrev pub invariant-loop-j : goal.invariant-loop-j

@@ -1,6 +1,5 @@
 -- `questions::names::item_named` meets its contract: each arm of the match is the definition's. Assumes nothing.
 
-use borrow.Author.Rules.{rules}
 use Rattle.questions.proofs.names.item_named.Goals as goal
 
 pub returns-in-Write : goal.returns-in-Write

@@ -1,8 +1,4 @@
 -- `questions::names::items_named` meets its contract: the items so far name what exists. Assumes nothing.
-use mathlib.Core.Path.{◌≡◌}
-use mathlib.Core.Bool.{true}
-use Prim.Native.Nat.{◌-◌, ◌≤◌}
-use Rattle.questions.specs.Items.{all_below, item_named}
 use Rattle.questions.proofs.Judging
 use Rattle.std.proofs.lemmas.Bool.{not_from_false, not_from_true}
 use borrow.Author.Rules.{rules}

@@ -3,7 +3,6 @@ use mathlib.Core.Path.{◌≡◌}
 use mathlib.Core.Bool.{true}
 use Prim.Native.Nat.{◌-◌, ◌≤◌}
 use Rattle.questions.specs.Items.{all_below, item_named}
-use Rattle.questions.proofs.Judging
 use Rattle.questions.proofs.names.items_named.Given as goal
 
 abbrev pub invariant-loop-i : goal.invariant-loop-i

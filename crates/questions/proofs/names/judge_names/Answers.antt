@@ -1,7 +1,6 @@
 -- `questions::names::judge_names` meets its contract: the answers are put together as in the definition. Assumes
 -- nothing.
 use Rattle.questions.proofs.Judging
-use borrow.Author.Rules.{rules}
 use Rattle.questions.proofs.names.judge_names.Goals as goal
 
 pub returns : goal.returns

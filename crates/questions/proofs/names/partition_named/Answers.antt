@@ -1,6 +1,5 @@
 -- `questions::names::partition_named` meets its contract: each arm of the match is the definition's. Assumes nothing.
 
-use borrow.Author.Rules.{rules}
 use Rattle.questions.proofs.names.partition_named.Goals as goal
 
 pub returns-in-Create : goal.returns-in-Create

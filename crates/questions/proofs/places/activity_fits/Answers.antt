@@ -1,6 +1,5 @@
 -- `questions::places::activity_fits` meets its contract: each arm of the match is the definition's. Assumes nothing.
 use Rattle.model.specs.Questions.{q16}
-use borrow.Author.Rules.{rules}
 use Rattle.questions.proofs.places.activity_fits.Goals as goal
 
 pub returns-in-Write : goal.returns-in-Write

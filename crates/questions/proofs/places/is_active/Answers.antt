@@ -2,7 +2,6 @@
 use mathlib.Core.Path.{◌∙◌}
 use lib.Dec.{eqb}
 use Rattle.questions.proofs.Judging
-use borrow.Author.Rules.{rules}
 use Rattle.questions.proofs.places.is_active.Goals as goal
 
 pub returns-in-Driver : goal.returns-in-Driver

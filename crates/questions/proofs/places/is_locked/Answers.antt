@@ -1,7 +1,6 @@
 -- `questions::places::is_locked` meets its contract: each arm of the match is the definition's. Assumes nothing.
 use lib.Dec.{eqb}
 use Rattle.questions.proofs.Judging
-use borrow.Author.Rules.{rules}
 use Rattle.questions.proofs.places.is_locked.Goals as goal
 
 pub returns-in-Driver : goal.returns-in-Driver

@@ -1,6 +1,5 @@
 -- `questions::places::item_inside` meets its contract: each arm of the match is the definition's. Assumes nothing.
 
-use borrow.Author.Rules.{rules}
 use Rattle.questions.proofs.places.item_inside.Goals as goal
 
 pub returns-in-Write : goal.returns-in-Write

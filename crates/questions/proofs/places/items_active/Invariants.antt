@@ -4,7 +4,6 @@ use mathlib.Core.Bool.{true}
 use Prim.Native.Nat.{◌-◌, ◌≤◌}
 use Rattle.model.specs.State.{view}
 use Rattle.questions.specs.Items.{all_below, item_active}
-use Rattle.questions.proofs.Judging
 use Rattle.questions.proofs.places.items_active.Given as goal
 
 abbrev pub invariant-loop-i : goal.invariant-loop-i

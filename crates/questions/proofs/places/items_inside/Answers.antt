@@ -1,9 +1,4 @@
 -- `questions::places::items_inside` meets its contract: the items so far are inside. Assumes nothing.
-use mathlib.Core.Path.{◌≡◌}
-use mathlib.Core.Bool.{true}
-use Prim.Native.Nat.{◌-◌, ◌≤◌}
-use Rattle.model.specs.State.{view}
-use Rattle.questions.specs.Items.{all_below, item_inside}
 use Rattle.questions.proofs.Judging
 use Rattle.std.proofs.lemmas.Bool.{not_from_false, not_from_true}
 use borrow.Author.Rules.{rules}

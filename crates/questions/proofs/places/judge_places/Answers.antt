@@ -1,7 +1,6 @@
 -- `questions::places::judge_places` meets its contract: the answers are put together as in the definition. Assumes
 -- nothing.
 use Rattle.questions.specs.Items.{places_no}
-use borrow.Author.Rules.{rules}
 use Rattle.questions.proofs.places.judge_places.Goals as goal
 
 pub returns : goal.returns

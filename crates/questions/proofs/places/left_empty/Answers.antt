@@ -1,6 +1,5 @@
 -- `questions::places::left_empty` meets its contract: each arm of the match is the definition's. Assumes nothing.
 use Rattle.model.specs.Questions.{q15}
-use borrow.Author.Rules.{rules}
 use Rattle.questions.proofs.places.left_empty.Goals as goal
 
 pub returns-in-Write : goal.returns-in-Write

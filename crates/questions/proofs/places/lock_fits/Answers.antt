@@ -1,6 +1,5 @@
 -- `questions::places::lock_fits` meets its contract: each arm of the match is the definition's. Assumes nothing.
 use Rattle.model.specs.Questions.{q23}
-use borrow.Author.Rules.{rules}
 use Rattle.questions.proofs.places.lock_fits.Goals as goal
 
 pub returns-in-Write : goal.returns-in-Write

@@ -1,11 +1,7 @@
 -- `questions::places::none_in` meets its contract: none of the column so far is p. Assumes nothing.
-use mathlib.Core.Path.{◌≡◌}
-use mathlib.Core.Bool.{true}
-use Prim.Native.Nat.{◌-◌, ◌≤◌}
 use native.Mathlib.Omega.{arith}
-use lib.ListN.{take}
 use Rattle.model.specs.State.{view}
-use Rattle.questions.specs.Items.{column_of, none_is}
+use Rattle.questions.specs.Items.{column_of}
 use Rattle.questions.proofs.Judging
 use borrow.Author.Rules.{rules}
 use Rattle.questions.proofs.places.none_in.Goals as goal

@@ -2,11 +2,9 @@
 use mathlib.Core.Path.{◌≡◌}
 use mathlib.Core.Bool.{true}
 use Prim.Native.Nat.{◌-◌, ◌≤◌}
-use native.Mathlib.Omega.{arith}
 use lib.ListN.{take}
 use Rattle.model.specs.State.{view}
 use Rattle.questions.specs.Items.{column_of, none_is}
-use Rattle.questions.proofs.Judging
 use Rattle.questions.proofs.places.none_in.Given as goal
 
 abbrev pub invariant-loop-i : goal.invariant-loop-i

@@ -3,7 +3,6 @@ use mathlib.Core.Path.{sym}
 use Rattle.model.specs.State.{view}
 use Rattle.state.proofs.Places.{view_shape}
 use Rattle.questions.proofs.Judging
-use borrow.Author.Rules.{rules}
 use Rattle.questions.proofs.places.nothing_in.Goals as goal
 
 pub none_in-d-requires-clause-area_len : goal.none_in-d-requires-clause-area_len

@@ -1,6 +1,5 @@
 -- `questions::places::partition_of` meets its contract: each arm of the match is the definition's. Assumes nothing.
 
-use borrow.Author.Rules.{rules}
 use Rattle.questions.proofs.places.partition_of.Goals as goal
 
 pub returns-in-Driver : goal.returns-in-Driver

@@ -1,7 +1,6 @@
 -- `questions::places::placed` meets its contract: each arm of the match is the definition's. Assumes nothing.
 use Rattle.model.specs.Questions.{q17}
 use Rattle.questions.proofs.Judging
-use borrow.Author.Rules.{rules}
 use Rattle.questions.proofs.places.placed.Goals as goal
 
 pub returns-in-Driver : goal.returns-in-Driver

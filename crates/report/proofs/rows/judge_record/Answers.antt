@@ -1,6 +1,5 @@
 -- `report::rows::judge_record` meets its contract: what the gate promises, and the row. Assumes nothing.
 use Rattle.report.proofs.Sessions.{record-put}
-use borrow.Author.Rules.{rules}
 use Rattle.report.proofs.rows.judge_record.Goals as goal
 
 pub returns : goal.returns

@@ -1,7 +1,6 @@
 -- `report::rows::put_cut` meets its contract: byte after byte. Assumes nothing.
 use mathlib.Core.List.{[], ◌∷◌}
 use Rattle.page.proofs.Laying.{then}
-use borrow.Author.Rules.{rules}
 use Rattle.report.proofs.rows.put_cut.Goals as goal
 
 pub returns : goal.returns

@@ -1,6 +1,5 @@
 -- `report::rows::put_row` meets its contract: place, space, answer and newline. Assumes nothing.
 use Rattle.report.proofs.Sessions.{row_put}
-use borrow.Author.Rules.{rules}
 use Rattle.report.proofs.rows.put_row.Goals as goal
 
 pub returns : goal.returns

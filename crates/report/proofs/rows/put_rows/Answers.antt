@@ -3,9 +3,6 @@ use Rattle.report.proofs.Sessions.{stop-within}
 use Rattle.page.proofs.Laying.{put-within}
 use Rattle.model.proofs.OfficeLaws.{number-within}
 use native.Mathlib.Omega.{arith}
-use mathlib.Core.Path.{◌≡◌}
-use lib.ListN.{length}
-use Prim.Native.Nat.{◌≤◌, ◌-◌}
 use Rattle.report.proofs.Sessions.{Onward, onward-done, onward_bad, onward_short, onward-next}
 use borrow.Author.Rules.{rules, part_to_end}
 use Rattle.report.proofs.rows.put_rows.Goals as goal

@@ -1,12 +1,7 @@
-use mathlib.Core.Path.{◌∙◌}
-use Rattle.report.proofs.Sessions.{stop-within}
-use Rattle.page.proofs.Laying.{put-within}
-use Rattle.model.proofs.OfficeLaws.{number-within}
-use native.Mathlib.Omega.{arith}
 use mathlib.Core.Path.{◌≡◌}
 use lib.ListN.{length}
 use Prim.Native.Nat.{◌≤◌, ◌-◌}
-use Rattle.report.proofs.Sessions.{Onward, onward-done, onward_bad, onward_short, onward-next}
+use Rattle.report.proofs.Sessions.{Onward}
 use Rattle.report.proofs.rows.put_rows.Given as goal
 
 abbrev pub invariant-loop-at : goal.invariant-loop-at

@@ -2,7 +2,6 @@
 -- nothing.
 use mathlib.Core.Path.{sym}
 use Rattle.scene.proofs.Ranges.{held_byte}
-use borrow.Author.Rules.{rules}
 use Rattle.scene.proofs.area.held_by.Goals as goal
 
 pub returns : goal.returns

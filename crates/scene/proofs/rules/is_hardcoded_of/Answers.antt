@@ -1,6 +1,5 @@
 -- `scene::rules::is_hardcoded_of` meets its contract: the bytes are those that `owned` names. Assumes nothing.
 
-use borrow.Author.Rules.{rules}
 use Rattle.scene.proofs.rules.is_hardcoded_of.Goals as goal
 
 pub returns : goal.returns

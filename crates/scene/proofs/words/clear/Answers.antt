@@ -1,6 +1,5 @@
 -- `scene::words::clear` meets its contract: the one digit differs. Assumes nothing.
 use Rattle.scene.proofs.Digits.{cleared_of}
-use borrow.Author.Rules.{rules}
 use Rattle.scene.proofs.words.clear.Goals as goal
 
 pub returns : goal.returns

@@ -3,7 +3,6 @@ use lib.Dec.{eqb}
 use mathlib.Core.Path.{ap}
 use Prim.Native.Nat.{ℕ}
 use Rattle.scene.proofs.Digits.{bit_at}
-use borrow.Author.Rules.{rules}
 use Rattle.scene.proofs.words.has.Goals as goal
 
 pub returns : goal.returns

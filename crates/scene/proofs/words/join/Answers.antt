@@ -3,7 +3,6 @@ use native.Mathlib.Omega.{arith}
 use native.Mathlib.Nat.{le_of_lt}
 use mathlib.Core.Path.{refl}
 use lib.Bits.{or_lt}
-use borrow.Author.Rules.{rules}
 use Rattle.scene.proofs.words.join.Goals as goal
 
 pub returns-clause-value : goal.returns-clause-value

@@ -1,7 +1,6 @@
 -- `scene::words::lowest` meets its contract: the trailing zeros of a word that is not 0. Assumes nothing.
 use native.Mathlib.Omega.{arith}
 use Rattle.scene.proofs.Digits.{lowest_bit, lowest_below}
-use borrow.Author.Rules.{rules}
 use Rattle.scene.proofs.words.lowest.Goals as goal
 
 pub overflow_cast-result : goal.overflow_cast-result

@@ -3,7 +3,6 @@ use native.Mathlib.Omega.{arith}
 use lib.Count.{trailing_le}
 use Prim.Native.Nat.{◌/◌, ◌^◌}
 use Rattle.scene.proofs.Digits.{next_none, next_some, next_fits}
-use borrow.Author.Rules.{rules}
 use Rattle.scene.proofs.words.next.Goals as goal
 
 pub returns-then-s-eq0 : goal.returns-then-s-eq0

@@ -1,6 +1,5 @@
 -- `scene::words::power` meets its contract: nothing is shifted out. Assumes nothing.
 use Rattle.scene.proofs.Digits.{shl_one}
-use borrow.Author.Rules.{rules}
 use Rattle.scene.proofs.words.power.Goals as goal
 
 pub returns : goal.returns

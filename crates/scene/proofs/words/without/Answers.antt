@@ -1,6 +1,5 @@
 -- `scene::words::without` meets its contract: the digits of b are joined, and taken away. Assumes nothing.
 use Rattle.scene.proofs.Digits.{without_of}
-use borrow.Author.Rules.{rules}
 use Rattle.scene.proofs.words.without.Goals as goal
 
 pub returns : goal.returns

@@ -1,7 +1,6 @@
 -- `searches::leaving::is_unnamed` meets its contract: the search's answer is the definition's. Assumes nothing.
 use mathlib.Core.Path.{◌∙◌}
 use Rattle.closure.proofs.Answering.{nothing_of}
-use borrow.Author.Rules.{rules}
 use Rattle.searches.proofs.leaving.is_unnamed.Goals as goal
 
 pub returns : goal.returns

@@ -1,6 +1,5 @@
 -- `searches::leaving::mark_concerned` meets its contract: one law for each actor. Assumes nothing.
 use Rattle.searches.proofs.Marking
-use borrow.Author.Rules.{rules}
 use Rattle.searches.proofs.leaving.mark_concerned.Goals as goal
 
 pub mark_listed-requires : goal.mark_listed-requires

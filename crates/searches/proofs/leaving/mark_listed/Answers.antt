@@ -1,9 +1,5 @@
 -- `searches::leaving::mark_listed` meets its contract: the objects listed so far are marked. Assumes nothing.
-use lib.ListN.{length}
-use mathlib.Core.Path.{◌≡◌, refl}
-use Prim.Native.Nat.{◌-◌, ◌≤◌}
-use Rattle.searches.specs.Asking.{Marks}
-use Rattle.effect.specs.Moves.{listed}
+use mathlib.Core.Path.{refl}
 use Rattle.state.proofs.Splicing.{length_turn}
 use Rattle.searches.proofs.Marking
 use Rattle.searches.proofs.Marking.{slots}

@@ -1,9 +1,6 @@
 -- `searches::leaving::mark_owned` meets its contract: the objects so far are marked, and none after them. Assumes
 -- nothing.
-use lib.ListN.{length}
-use mathlib.Core.Path.{◌≡◌, refl}
-use Prim.Native.Nat.{◌-◌, ◌≤◌}
-use Rattle.effect.specs.Moves.{owned_by}
+use mathlib.Core.Path.{refl}
 use Rattle.state.proofs.Splicing.{length_turn}
 use Rattle.searches.proofs.Marking
 use Rattle.searches.proofs.Marking.{slots, Upto}

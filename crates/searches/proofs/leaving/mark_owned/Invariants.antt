@@ -1,11 +1,9 @@
 -- `searches::leaving::mark_owned` meets its contract: the objects so far are marked, and none after them. Assumes
 -- nothing.
 use lib.ListN.{length}
-use mathlib.Core.Path.{◌≡◌, refl}
+use mathlib.Core.Path.{◌≡◌}
 use Prim.Native.Nat.{◌-◌, ◌≤◌}
 use Rattle.effect.specs.Moves.{owned_by}
-use Rattle.state.proofs.Splicing.{length_turn}
-use Rattle.searches.proofs.Marking
 use Rattle.searches.proofs.Marking.{slots, Upto}
 use Rattle.searches.proofs.leaving.mark_owned.Given as goal
 

@@ -1,10 +1,8 @@
 -- `searches::leaving::stays_unnamed` meets its contract: nothing is deactivated, the zone does not let the objects
 -- concerned go, or their table is searched for. Assumes nothing.
-use borrow.Author.Tests.{not-true, not-false}
 use mathlib.Core.Path.{◌∙◌, sym}
 use Rattle.searches.proofs.Readying
 use Rattle.searches.proofs.Unnamed
-use borrow.Author.Rules.{rules}
 use Rattle.searches.proofs.leaving.stays_unnamed.Goals as goal
 
 pub returns-then-not-is_leaving : goal.returns-then-not-is_leaving

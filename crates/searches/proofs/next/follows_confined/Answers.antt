@@ -1,10 +1,8 @@
 -- `searches::next::follows_confined` meets its contract: neither question is put, or the state that would follow is
 -- searched. Assumes nothing.
-use borrow.Author.Tests.{not-true, not-false}
 use mathlib.Core.Path.{◌∙◌, sym, refl}
 use Rattle.searches.proofs.Readying
 use Rattle.searches.proofs.Asking
-use borrow.Author.Rules.{rules}
 use Rattle.searches.proofs.next.follows_confined.Goals as goal
 
 pub is_followed-requires : goal.is_followed-requires

@@ -1,7 +1,6 @@
 -- `searches::next::is_confined` meets its contract: the search's answer is the definition's. Assumes nothing.
 use mathlib.Core.Path.{◌∙◌}
 use Rattle.closure.proofs.Answering.{nothing_of}
-use borrow.Author.Rules.{rules}
 use Rattle.searches.proofs.next.is_confined.Goals as goal
 
 pub returns : goal.returns

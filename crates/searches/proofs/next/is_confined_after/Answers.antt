@@ -1,7 +1,6 @@
 -- `searches::next::is_confined_after` meets its contract: what is searched is the area that the operation leaves.
 -- Assumes nothing.
 use Rattle.searches.proofs.Asking
-use borrow.Author.Rules.{rules}
 use Rattle.searches.proofs.next.is_confined_after.Goals as goal
 
 pub is_confined-requires : goal.is_confined-requires

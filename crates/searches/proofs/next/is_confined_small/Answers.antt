@@ -3,7 +3,6 @@
 use mathlib.Core.Path.{sym, ap}
 use Rattle.model.specs.State.{area_length}
 use Rattle.searches.proofs.Asking
-use borrow.Author.Rules.{rules}
 use Rattle.searches.proofs.next.is_confined_small.Goals as goal
 
 pub follow-requires-clause-next_len : goal.follow-requires-clause-next_len

@@ -2,7 +2,6 @@
 -- Assumes nothing.
 use mathlib.Core.Path.{refl}
 use Rattle.searches.proofs.Readying
-use borrow.Author.Rules.{rules}
 use Rattle.searches.proofs.next.is_confined_wide.Goals as goal
 
 pub slice_bounds-is_confined_after-end : goal.slice_bounds-is_confined_after-end

@@ -1,6 +1,5 @@
 -- `searches::next::is_entering` meets its contract: both tests are the definition's. Assumes nothing.
 
-use borrow.Author.Rules.{rules}
 use Rattle.searches.proofs.next.is_entering.Goals as goal
 
 pub returns : goal.returns

@@ -1,6 +1,5 @@
 -- `searches::next::is_followed` meets its contract: nothing is stored, a device acts, or by the zone. Assumes nothing.
 use Rattle.searches.proofs.Asking
-use borrow.Author.Rules.{rules}
 use Rattle.searches.proofs.next.is_followed.Goals as goal
 
 pub returns-then-not-is_storing : goal.returns-then-not-is_storing

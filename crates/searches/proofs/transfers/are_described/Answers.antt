@@ -1,10 +1,8 @@
 -- `searches::transfers::are_described` meets its contract: no device acts, nothing is stored, or the items decide.
 -- Assumes nothing.
-use borrow.Author.Tests.{not-true, not-false}
 use mathlib.Core.Path.{◌∙◌, sym}
 use Rattle.searches.proofs.Readying
 use Rattle.searches.proofs.Asking
-use borrow.Author.Rules.{rules}
 use Rattle.searches.proofs.transfers.are_described.Goals as goal
 
 pub returns-then-not-is_by_device : goal.returns-then-not-is_by_device

@@ -3,7 +3,6 @@ use Rattle.model.specs.State.{view}
 use Rattle.searches.specs.Asking.{today_of}
 use Rattle.scene.specs.Scene.{Scene}
 use Rattle.searches.proofs.Asking
-use borrow.Author.Rules.{rules}
 use Rattle.searches.proofs.transfers.item_described.Goals as goal
 
 pub returns-in-Write : goal.returns-in-Write

@@ -1,14 +1,8 @@
 -- `searches::transfers::items_described` meets its contract: the items so far are described, whatever device the table
 -- is of. Assumes nothing.
-use Prim.Native.Nat.{◌-◌, ◌≤◌}
-use mathlib.Core.Bool.{true, false}
-use mathlib.Core.Path.{◌≡◌}
-use Rattle.model.specs.Operation.{most_items}
+use mathlib.Core.Bool.{false}
 use Rattle.model.specs.State.{view}
 use Rattle.scene.specs.Scene.{Scene}
-use Rattle.described.specs.Offers.{Offered}
-use Rattle.searches.specs.Asking.{item_described, today_of}
-use Rattle.questions.specs.Items.{all_below}
 use Rattle.questions.proofs.Judging
 use Rattle.searches.proofs.Asking
 use Rattle.std.proofs.lemmas.Bool.{not_from_false, not_from_true}

@@ -1,7 +1,7 @@
 -- `searches::transfers::items_described` meets its contract: the items so far are described, whatever device the table
 -- is of. Assumes nothing.
 use Prim.Native.Nat.{◌-◌, ◌≤◌}
-use mathlib.Core.Bool.{true, false}
+use mathlib.Core.Bool.{true}
 use mathlib.Core.Path.{◌≡◌}
 use Rattle.model.specs.Operation.{most_items}
 use Rattle.model.specs.State.{view}
@@ -9,8 +9,6 @@ use Rattle.scene.specs.Scene.{Scene}
 use Rattle.described.specs.Offers.{Offered}
 use Rattle.searches.specs.Asking.{item_described, today_of}
 use Rattle.questions.specs.Items.{all_below}
-use Rattle.questions.proofs.Judging
-use Rattle.searches.proofs.Asking
 use Rattle.searches.proofs.transfers.items_described.Given as goal
 
 abbrev pub invariant-loop-i : goal.invariant-loop-i

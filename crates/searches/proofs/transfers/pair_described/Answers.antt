@@ -1,11 +1,9 @@
 -- `searches::transfers::pair_described` meets its contract: the source is not described, no destination is asked for,
 -- or the destination decides. Assumes nothing.
-use borrow.Author.Tests.{not-true, not-false}
 use Rattle.model.specs.State.{view}
 use Rattle.searches.specs.Asking.{today_of}
 use Rattle.scene.specs.Scene.{Scene}
 use Rattle.searches.proofs.Asking
-use borrow.Author.Rules.{rules}
 use Rattle.searches.proofs.transfers.pair_described.Goals as goal
 
 pub returns-then-not-is_described : goal.returns-then-not-is_described

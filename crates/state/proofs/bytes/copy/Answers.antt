@@ -1,8 +1,5 @@
 -- `state::bytes::copy` meets its contract: after i turns the first i bytes are in place. Assumes nothing.
-use Prim.Native.Nat.{◌-◌, ◌≤◌}
-use mathlib.Core.Path.{◌≡◌, refl}
-use lib.ListN.{length}
-use Rattle.state.specs.Splice.{splice, part}
+use mathlib.Core.Path.{refl}
 use Rattle.state.proofs.Splicing.{none, turn, last, length_turn}
 use borrow.Author.Rules.{rules}
 use Rattle.state.proofs.bytes.copy.Goals as goal

@@ -1,9 +1,8 @@
 -- `state::bytes::copy` meets its contract: after i turns the first i bytes are in place. Assumes nothing.
 use Prim.Native.Nat.{◌-◌, ◌≤◌}
-use mathlib.Core.Path.{◌≡◌, refl}
+use mathlib.Core.Path.{◌≡◌}
 use lib.ListN.{length}
 use Rattle.state.specs.Splice.{splice, part}
-use Rattle.state.proofs.Splicing.{none, turn, last, length_turn}
 use Rattle.state.proofs.bytes.copy.Given as goal
 
 abbrev pub invariant-loop-i : goal.invariant-loop-i

@@ -1,6 +1,4 @@
 -- `state::bytes::highest` meets its contract: `top` is the highest of the bytes before place i. Assumes nothing.
-use Prim.Native.Nat.{◌-◌, ◌≤◌}
-use Rattle.state.specs.Bytes.{Highest}
 use Rattle.state.proofs.Runs.{highest_none, highest_on, highest_end}
 use borrow.Author.Rules.{rules}
 use Rattle.state.proofs.bytes.highest.Goals as goal

@@ -1,7 +1,6 @@
 -- `state::bytes::highest` meets its contract: `top` is the highest of the bytes before place i. Assumes nothing.
 use Prim.Native.Nat.{◌-◌, ◌≤◌}
 use Rattle.state.specs.Bytes.{Highest}
-use Rattle.state.proofs.Runs.{highest_none, highest_on, highest_end}
 use Rattle.state.proofs.bytes.highest.Given as goal
 
 abbrev pub invariant-loop-i : goal.invariant-loop-i

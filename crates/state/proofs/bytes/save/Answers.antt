@@ -1,6 +1,5 @@
 -- `state::bytes::save` meets its contract: a copy of all sixteen bytes. Assumes nothing.
 use Rattle.state.proofs.Splicing.{stored}
-use borrow.Author.Rules.{rules}
 use Rattle.state.proofs.bytes.save.Goals as goal
 
 pub returns : goal.returns

@@ -1,6 +1,5 @@
 -- `state::change::set_device` meets its contract: a store of one byte, or none. Assumes nothing.
 use Rattle.state.proofs.Places.{device-stored, device-kept, device_zero}
-use borrow.Author.Rules.{rules}
 use Rattle.state.proofs.change.set_device.Goals as goal
 
 pub returns-then-c-eq0 : goal.returns-then-c-eq0

@@ -1,6 +1,5 @@
 -- `state::change::set_driver` meets its contract: a store of one byte, or none. Assumes nothing.
 use Rattle.state.proofs.Places.{driver-stored, driver-kept, driver_zero}
-use borrow.Author.Rules.{rules}
 use Rattle.state.proofs.change.set_driver.Goals as goal
 
 pub returns-then-d-eq0 : goal.returns-then-d-eq0

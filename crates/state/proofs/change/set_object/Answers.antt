@@ -1,6 +1,5 @@
 -- `state::change::set_object` meets its contract: a store of one byte, or none. Assumes nothing.
 use Rattle.state.proofs.Places.{object-stored, object-kept, object_zero}
-use borrow.Author.Rules.{rules}
 use Rattle.state.proofs.change.set_object.Goals as goal
 
 pub returns-then-n-eq0 : goal.returns-then-n-eq0

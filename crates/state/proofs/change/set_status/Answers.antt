@@ -1,6 +1,5 @@
 -- `state::change::set_status` meets its contract: a store of one byte, or none. Assumes nothing.
 use Rattle.state.proofs.Places.{status-stored, status-kept}
-use borrow.Author.Rules.{rules}
 use Rattle.state.proofs.change.set_status.Goals as goal
 
 pub returns-then-p-lt-PARTITIONS : goal.returns-then-p-lt-PARTITIONS

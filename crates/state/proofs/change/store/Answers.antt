@@ -1,6 +1,5 @@
 -- `state::change::store` meets its contract: a store of sixteen bytes, or none. Assumes nothing.
 use Rattle.state.proofs.Places.{content-stored, content-kept, content_zero}
-use borrow.Author.Rules.{rules}
 use Rattle.state.proofs.change.store.Goals as goal
 
 pub returns-then-n-eq0 : goal.returns-then-n-eq0

@@ -1,17 +1,6 @@
 -- `state::formed::assignments_formed` meets its contract: after i turns the first i bytes are none or name existing
 -- partitions. Assumes nothing.
-use Prim.Native.Nat.{◌-◌, ◌≤◌}
-use mathlib.Core.Path.{◌≡◌}
-use mathlib.Core.Bool.{true}
-use Rattle.model.specs.State.{view}
-use Rattle.state.proofs.Forms.{
-  assigned_to,
-  assigned_none,
-  assigned_on,
-  assignments_off,
-  assignments_many,
-  assignments_end,
-}
+use Rattle.state.proofs.Forms.{assigned_none, assigned_on, assignments_off, assignments_many, assignments_end}
 use borrow.Author.Rules.{rules}
 use Rattle.state.proofs.formed.assignments_formed.Goals as goal
 

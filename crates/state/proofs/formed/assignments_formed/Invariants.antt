@@ -4,14 +4,7 @@ use Prim.Native.Nat.{◌-◌, ◌≤◌}
 use mathlib.Core.Path.{◌≡◌}
 use mathlib.Core.Bool.{true}
 use Rattle.model.specs.State.{view}
-use Rattle.state.proofs.Forms.{
-  assigned_to,
-  assigned_none,
-  assigned_on,
-  assignments_off,
-  assignments_many,
-  assignments_end,
-}
+use Rattle.state.proofs.Forms.{assigned_to}
 use Rattle.state.proofs.formed.assignments_formed.Given as goal
 
 abbrev pub invariant-loop-i : goal.invariant-loop-i

@@ -1,6 +1,5 @@
 -- `state::formed::is_head_formed` meets its contract: a law for each part of the head. Assumes nothing.
 use Rattle.state.proofs.Forms.{head_status, head_drivers, head_devices, head_locks}
-use borrow.Author.Rules.{rules}
 use Rattle.state.proofs.formed.is_head_formed.Goals as goal
 
 pub returns-then-not-statuses_formed : goal.returns-then-not-statuses_formed

@@ -1,6 +1,5 @@
 -- `state::formed::statuses_formed` meets its contract: a law for each way out. Assumes nothing.
 use Rattle.state.proofs.Forms.{status-first, status-rest}
-use borrow.Author.Rules.{rules}
 use Rattle.state.proofs.formed.statuses_formed.Goals as goal
 
 pub returns-then-area-ne0 : goal.returns-then-area-ne0

@@ -1,6 +1,5 @@
 -- `state::fresh::make_fresh` meets its contract: zeros, then the hardcoded values. Assumes nothing.
 use Rattle.state.proofs.Turns.{zero_whole, fresh-whole}
-use borrow.Author.Rules.{rules}
 use Rattle.state.proofs.fresh.make_fresh.Goals as goal
 
 pub store_values-requires : goal.store_values-requires

@@ -1,6 +1,5 @@
 -- `state::fresh::store_hardcoded` meets its contract: a law for each way out. Assumes nothing.
 use Rattle.state.proofs.Turns.{value-absent, value-other, value-hardcoded}
-use borrow.Author.Rules.{rules}
 use Rattle.state.proofs.fresh.store_hardcoded.Goals as goal
 
 pub returns-then-objects-n : goal.returns-then-objects-n

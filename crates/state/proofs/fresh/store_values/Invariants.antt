@@ -1,13 +1,13 @@
 -- `state::fresh::store_values` meets its contract: after i turns the first i hardcoded values stand, and
 -- records of absent objects hold none. Assumes nothing.
 use Prim.Native.Nat.{◌-◌, ◌≤◌}
-use mathlib.Core.Path.{◌≡◌, refl}
+use mathlib.Core.Path.{◌≡◌}
 use mathlib.Core.List.{[]}
 use lib.ListN.{length}
 use Rattle.model.specs.State.{view}
 use Rattle.state.specs.Bytes.{Lesser}
 use Rattle.state.specs.Change.{objects_lent}
-use Rattle.state.proofs.Turns.{zero_length, fresh_to, fresh_none, fresh_on, fresh_end}
+use Rattle.state.proofs.Turns.{fresh_to}
 use Rattle.state.proofs.fresh.store_values.Given as goal
 
 abbrev pub invariant-loop-i : goal.invariant-loop-i

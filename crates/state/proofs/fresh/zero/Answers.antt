@@ -1,8 +1,5 @@
 -- `state::fresh::zero` meets its contract: after i turns the first i bytes are 0. Assumes nothing.
-use Prim.Native.Nat.{◌-◌, ◌≤◌}
-use mathlib.Core.Path.{◌≡◌, refl}
-use mathlib.Core.List.{◌++◌}
-use lib.ListN.{length, drop, replicate}
+use mathlib.Core.Path.{refl}
 use Rattle.state.proofs.Splicing.{length_turn}
 use Rattle.state.proofs.Turns.{zero_on, zero_end}
 use borrow.Author.Rules.{rules}

@@ -1,10 +1,8 @@
 -- `state::fresh::zero` meets its contract: after i turns the first i bytes are 0. Assumes nothing.
 use Prim.Native.Nat.{◌-◌, ◌≤◌}
-use mathlib.Core.Path.{◌≡◌, refl}
+use mathlib.Core.Path.{◌≡◌}
 use mathlib.Core.List.{◌++◌}
 use lib.ListN.{length, drop, replicate}
-use Rattle.state.proofs.Splicing.{length_turn}
-use Rattle.state.proofs.Turns.{zero_on, zero_end}
 use Rattle.state.proofs.fresh.zero.Given as goal
 
 abbrev pub invariant-loop-i : goal.invariant-loop-i

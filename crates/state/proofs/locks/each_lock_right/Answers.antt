@@ -1,12 +1,5 @@
 -- `state::locks::each_lock_right` meets its contract: after i turns the first i locks are right. Assumes nothing.
-use Prim.Native.Nat.{◌-◌, ◌≤◌}
-use mathlib.Core.Path.{◌≡◌}
-use mathlib.Core.List.{[]}
-use mathlib.Core.Bool.{true}
-use Rattle.model.specs.Config.{most_devices}
-use Rattle.model.specs.State.{view}
-use Rattle.state.specs.Change.{lent}
-use Rattle.state.proofs.Locking.{locks_to, locks_none, locks_on, locks_off, locks_end}
+use Rattle.state.proofs.Locking.{locks_none, locks_on, locks_off, locks_end}
 use borrow.Author.Rules.{rules}
 use Rattle.state.proofs.locks.each_lock_right.Goals as goal
 

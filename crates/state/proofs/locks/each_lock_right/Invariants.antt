@@ -6,7 +6,7 @@ use mathlib.Core.Bool.{true}
 use Rattle.model.specs.Config.{most_devices}
 use Rattle.model.specs.State.{view}
 use Rattle.state.specs.Change.{lent}
-use Rattle.state.proofs.Locking.{locks_to, locks_none, locks_on, locks_off, locks_end}
+use Rattle.state.proofs.Locking.{locks_to}
 use Rattle.state.proofs.locks.each_lock_right.Given as goal
 
 abbrev pub invariant-loop-i : goal.invariant-loop-i

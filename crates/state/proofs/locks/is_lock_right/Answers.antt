@@ -1,6 +1,5 @@
 -- `state::locks::is_lock_right` meets its contract: a law for each way out. Assumes nothing.
 use Rattle.state.proofs.Locking.{lock_none, lock-absent, lock_present}
-use borrow.Author.Rules.{rules}
 use Rattle.state.proofs.locks.is_lock_right.Goals as goal
 
 pub returns-then-v-eq-UNLOCKED : goal.returns-then-v-eq-UNLOCKED

@@ -1,6 +1,5 @@
 -- `state::locks::locks_formed` meets its contract: no lock, or each is looked at. Assumes nothing.
 use Rattle.state.proofs.Locking.{locks_zero}
-use borrow.Author.Rules.{rules}
 use Rattle.state.proofs.locks.locks_formed.Goals as goal
 
 pub returns-then-first-second : goal.returns-then-first-second

@@ -1,6 +1,5 @@
 -- `state::look::content` meets its contract: the content bytes of an object's record, or zeros. Assumes nothing.
 use Rattle.state.proofs.Places.{content_out, content_in}
-use borrow.Author.Rules.{rules}
 use Rattle.state.proofs.look.content.Goals as goal
 
 pub returns-then-n-room : goal.returns-then-n-room

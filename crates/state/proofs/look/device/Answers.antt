@@ -1,6 +1,5 @@
 -- `state::look::device` meets its contract: the byte of a device, or 0. Assumes nothing.
 use Rattle.state.proofs.Places.{device_in_lem, device_out}
-use borrow.Author.Rules.{rules}
 use Rattle.state.proofs.look.device.Goals as goal
 
 pub returns-then-c-le-DEVICE_BYTES : goal.returns-then-c-le-DEVICE_BYTES

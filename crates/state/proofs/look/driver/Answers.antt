@@ -1,6 +1,5 @@
 -- `state::look::driver` meets its contract: the byte of a driver, or 0. Assumes nothing.
 use Rattle.state.proofs.Places.{driver_in_lem, driver_out}
-use borrow.Author.Rules.{rules}
 use Rattle.state.proofs.look.driver.Goals as goal
 
 pub returns-then-d-le-DRIVER_BYTES : goal.returns-then-d-le-DRIVER_BYTES

@@ -1,6 +1,5 @@
 -- `state::look::is_green` meets its contract: the status is that of a green zone. Assumes nothing.
 
-use borrow.Author.Rules.{rules}
 use Rattle.state.proofs.look.is_green.Goals as goal
 
 pub returns : goal.returns

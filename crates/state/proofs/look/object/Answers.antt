@@ -1,6 +1,5 @@
 -- `state::look::object` meets its contract: the first byte of an object's record, or 0. Assumes nothing.
 use Rattle.state.proofs.Places.{object_in_lem, object_out}
-use borrow.Author.Rules.{rules}
 use Rattle.state.proofs.look.object.Goals as goal
 
 pub returns-then-n-room : goal.returns-then-n-room

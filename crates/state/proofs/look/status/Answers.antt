@@ -1,6 +1,5 @@
 -- `state::look::status` meets its contract: the byte of a partition, or 0. Assumes nothing.
 use Rattle.state.proofs.Places.{status_in, status_out}
-use borrow.Author.Rules.{rules}
 use Rattle.state.proofs.look.status.Goals as goal
 
 pub returns-then-p-lt-PARTITIONS : goal.returns-then-p-lt-PARTITIONS

@@ -1,6 +1,5 @@
 -- `state::look::value` meets its contract: the first content byte of an object's record, or 0. Assumes nothing.
 use Rattle.state.proofs.Places.{value_out, value_in_lem}
-use borrow.Author.Rules.{rules}
 use Rattle.state.proofs.look.value.Goals as goal
 
 pub returns-then-n-room : goal.returns-then-n-room

@@ -1,7 +1,6 @@
 -- `state::room::room_for` meets its contract: the small room or the large one. Assumes nothing.
 use mathlib.Core.Path.{sym}
 use Rattle.model.proofs.Facts.{room_few, room_many}
-use borrow.Author.Rules.{rules}
 use Rattle.state.proofs.room.room_for.Goals as goal
 
 pub returns-then-n-le-SMALL_ROOM : goal.returns-then-n-le-SMALL_ROOM

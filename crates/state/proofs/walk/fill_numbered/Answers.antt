@@ -1,8 +1,4 @@
 -- `state::walk::fill_numbered` meets its contract: after i turns the table has the first i bytes. Assumes nothing.
-use Prim.Native.Nat.{◌-◌, ◌≤◌}
-use mathlib.Core.Path.{◌≡◌}
-use lib.ListN.{length}
-use Rattle.state.specs.Formed.{byte_values, Numbered}
 use Rattle.state.proofs.Splicing.{length_turn}
 use Rattle.state.proofs.Records.{numbered_none, numbered_on, numbered_end}
 use borrow.Author.Rules.{rules}

@@ -3,8 +3,6 @@ use Prim.Native.Nat.{◌-◌, ◌≤◌}
 use mathlib.Core.Path.{◌≡◌}
 use lib.ListN.{length}
 use Rattle.state.specs.Formed.{byte_values, Numbered}
-use Rattle.state.proofs.Splicing.{length_turn}
-use Rattle.state.proofs.Records.{numbered_none, numbered_on, numbered_end}
 use Rattle.state.proofs.walk.fill_numbered.Given as goal
 
 abbrev pub invariant-loop-i : goal.invariant-loop-i

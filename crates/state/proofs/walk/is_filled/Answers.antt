@@ -1,6 +1,5 @@
 -- `state::walk::is_filled` meets its contract: a law for each way out. Assumes nothing.
 use Rattle.state.proofs.Records.{content-hardcoded, content-value, content_free}
-use borrow.Author.Rules.{rules}
 use Rattle.state.proofs.walk.is_filled.Goals as goal
 
 pub returns-then-k-eq-HARDCODED_KIND : goal.returns-then-k-eq-HARDCODED_KIND

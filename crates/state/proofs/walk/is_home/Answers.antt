@@ -1,6 +1,5 @@
 -- `state::walk::is_home` meets its contract: a law for each way out. Assumes nothing.
 use Rattle.state.proofs.Records.{home_not, home_known, home_told}
-use borrow.Author.Rules.{rules}
 use Rattle.state.proofs.walk.is_home.Goals as goal
 
 pub returns-then-p-home : goal.returns-then-p-home

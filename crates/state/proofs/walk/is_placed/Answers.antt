@@ -1,6 +1,5 @@
 -- `state::walk::is_placed` meets its contract: a law for each class. Assumes nothing.
 use Rattle.state.proofs.Records.{place-driver, place-device, place_free}
-use borrow.Author.Rules.{rules}
 use Rattle.state.proofs.walk.is_placed.Goals as goal
 
 pub returns-in-2 : goal.returns-in-2

@@ -1,6 +1,5 @@
 -- `state::walk::is_right` meets its contract: a law for each way out. Assumes nothing.
 use Rattle.state.proofs.Records.{absent-place, absent-content, record-place, record-content}
-use borrow.Author.Rules.{rules}
 use Rattle.state.proofs.walk.is_right.Goals as goal
 
 pub returns-then-area-n-ne0 : goal.returns-then-area-n-ne0

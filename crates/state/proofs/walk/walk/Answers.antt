@@ -1,8 +1,4 @@
 -- `state::walk::walk` meets its contract: after n turns the first n records keep the rules. Assumes nothing.
-use Prim.Native.Nat.{◌-◌, ◌≤◌}
-use mathlib.Core.Path.{◌≡◌}
-use Rattle.model.specs.State.{view, first_bad}
-use Rattle.state.specs.Change.{objects_lent}
 use Rattle.state.proofs.Records.{walk_none, walk_off, walk_on, walk_end}
 use borrow.Author.Rules.{rules}
 use Rattle.state.proofs.walk.walk.Goals as goal

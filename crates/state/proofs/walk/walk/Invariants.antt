@@ -3,7 +3,6 @@ use Prim.Native.Nat.{◌-◌, ◌≤◌}
 use mathlib.Core.Path.{◌≡◌}
 use Rattle.model.specs.State.{view, first_bad}
 use Rattle.state.specs.Change.{objects_lent}
-use Rattle.state.proofs.Records.{walk_none, walk_off, walk_on, walk_end}
 use Rattle.state.proofs.walk.walk.Given as goal
 
 abbrev pub invariant-loop-n : goal.invariant-loop-n

@@ -1,6 +1,5 @@
 -- `vectors::cases::formed_row`: the room that is chosen is small. Assumes nothing.
 use Rattle.gate.proofs.Needed
-use borrow.Author.Rules.{rules}
 use Rattle.vectors.proofs.cases.formed_row.Goals as goal
 
 pub area_length-n-requires : goal.area_length-n-requires

@@ -2,7 +2,6 @@
 use native.Mathlib.Omega.{arith}
 use Rattle.model.proofs.Facts.{room_most}
 use Rattle.gate.proofs.Needed
-use borrow.Author.Rules.{rules}
 use Rattle.vectors.proofs.cases.needed.Goals as goal
 
 pub area_length-requires : goal.area_length-requires

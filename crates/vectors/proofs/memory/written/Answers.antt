@@ -4,7 +4,6 @@ use mathlib.Core.Path.{sym, subst}
 use Rattle.model.specs.Rewriting.{kind_unit, number_of_answer}
 use Rattle.model.specs.declared.Written.{Written}
 use Rattle.model.proofs.Rewriting.{write_number}
-use borrow.Author.Rules.{rules}
 use Rattle.vectors.proofs.memory.written.Goals as goal
 
 pub code_of-requires : goal.code_of-requires

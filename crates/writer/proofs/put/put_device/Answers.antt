@@ -1,6 +1,5 @@
 -- `writer::put::put_device` meets its contract: the value number, then the serial. Assumes nothing.
 use Rattle.writer.proofs.Putting
-use borrow.Author.Rules.{rules}
 use Rattle.writer.proofs.put.put_device.Goals as goal
 
 pub returns-then-edition-lt-SERIAL_EDITION : goal.returns-then-edition-lt-SERIAL_EDITION

@@ -6,7 +6,6 @@ use Rattle.model.specs.Number.{most_bytes}
 use Rattle.model.specs.ConfigWrite.{rows_from}
 use Rattle.page.specs.Page.{Placed}
 use Rattle.writer.specs.Bytes.{device_bytes}
-use Rattle.writer.proofs.Putting
 use Rattle.writer.proofs.put.put_devices.Given as goal
 
 abbrev pub invariant-loop-i : goal.invariant-loop-i

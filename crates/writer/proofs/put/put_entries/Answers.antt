@@ -1,12 +1,4 @@
 -- `writer::put::put_entries` meets its contract: entries 1 to i are put down. Assumes nothing.
-use Prim.Native.Nat.{◌+◌, ◌-◌, ◌*◌, ◌≤◌}
-use mathlib.Core.Path.{◌≡◌}
-use lib.ListN.{length}
-use Rattle.model.specs.Number.{most_bytes}
-use Rattle.model.specs.ConfigWrite.{rows_from}
-use Rattle.page.specs.Page.{Placed}
-use Rattle.model.specs.Config.{entry_place}
-use Rattle.writer.specs.Bytes.{entry_bytes_of}
 use Rattle.writer.proofs.Putting
 use borrow.Author.Rules.{rules}
 use Rattle.writer.proofs.put.put_entries.Goals as goal

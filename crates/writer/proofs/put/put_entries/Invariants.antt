@@ -7,7 +7,6 @@ use Rattle.model.specs.ConfigWrite.{rows_from}
 use Rattle.page.specs.Page.{Placed}
 use Rattle.model.specs.Config.{entry_place}
 use Rattle.writer.specs.Bytes.{entry_bytes_of}
-use Rattle.writer.proofs.Putting
 use Rattle.writer.proofs.put.put_entries.Given as goal
 
 abbrev pub invariant-loop-i : goal.invariant-loop-i

@@ -1,7 +1,6 @@
 -- `writer::put::put_file` meets its contract: counts, objects, devices, values. Assumes nothing.
 use native.Mathlib.Omega.{arith}
 use Rattle.writer.proofs.Putting
-use borrow.Author.Rules.{rules}
 use Rattle.writer.proofs.put.put_file.Goals as goal
 
 pub put_counts-a-requires : goal.put_counts-a-requires

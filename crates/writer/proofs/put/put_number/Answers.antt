@@ -1,6 +1,5 @@
 -- `writer::put::put_number` meets its contract: the byte is the number. Assumes nothing.
 use Rattle.writer.proofs.Putting
-use borrow.Author.Rules.{rules}
 use Rattle.writer.proofs.put.put_number.Goals as goal
 
 pub returns : goal.returns

@@ -1,10 +1,4 @@
 -- `writer::put::put_objects` meets its contract: objects 1 to i are put down. Assumes nothing.
-use Prim.Native.Nat.{◌+◌, ◌-◌, ◌*◌, ◌≤◌}
-use mathlib.Core.Path.{◌≡◌}
-use lib.ListN.{length}
-use Rattle.model.specs.Number.{most_bytes}
-use Rattle.model.specs.ConfigWrite.{rows_from}
-use Rattle.page.specs.Page.{Placed}
 use Rattle.writer.specs.Bytes.{object_bytes}
 use Rattle.writer.proofs.Putting
 use borrow.Author.Rules.{rules}

@@ -1,6 +1,5 @@
 -- `writer::put::put_three` meets its contract: one number after the other. Assumes nothing.
 use Rattle.writer.proofs.Putting
-use borrow.Author.Rules.{rules}
 use Rattle.writer.proofs.put.put_three.Goals as goal
 
 pub returns-clause-placed : goal.returns-clause-placed

@@ -1,6 +1,5 @@
 -- `writer::put::put_value` meets its contract: the count, then the entries. Assumes nothing.
 use Rattle.writer.proofs.Putting
-use borrow.Author.Rules.{rules}
 use Rattle.writer.proofs.put.put_value.Goals as goal
 
 pub returns : goal.returns

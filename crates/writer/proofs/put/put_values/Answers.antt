@@ -1,10 +1,4 @@
 -- `writer::put::put_values` meets its contract: values 1 to i are put down. Assumes nothing.
-use Prim.Native.Nat.{◌+◌, ◌-◌, ◌*◌, ◌≤◌}
-use mathlib.Core.Path.{◌≡◌}
-use lib.ListN.{length}
-use Rattle.model.specs.ConfigWrite.{rows_from}
-use Rattle.page.specs.Page.{Placed}
-use Rattle.writer.specs.Bytes.{any_value_bytes, value_bytes}
 use Rattle.writer.proofs.Putting
 use borrow.Author.Rules.{rules}
 use Rattle.writer.proofs.put.put_values.Goals as goal

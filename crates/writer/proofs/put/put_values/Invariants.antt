@@ -5,7 +5,6 @@ use lib.ListN.{length}
 use Rattle.model.specs.ConfigWrite.{rows_from}
 use Rattle.page.specs.Page.{Placed}
 use Rattle.writer.specs.Bytes.{any_value_bytes, value_bytes}
-use Rattle.writer.proofs.Putting
 use Rattle.writer.proofs.put.put_values.Given as goal
 
 abbrev pub invariant-loop-i : goal.invariant-loop-i

@@ -1,6 +1,5 @@
 -- `writer::ranges::counts_right` meets its contract: the counts' row. Assumes nothing.
 use Rattle.writer.proofs.Testing
-use borrow.Author.Rules.{rules}
 use Rattle.writer.proofs.ranges.counts_right.Goals as goal
 
 pub returns : goal.returns

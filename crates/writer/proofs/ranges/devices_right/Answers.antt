@@ -1,10 +1,5 @@
 -- `writer::ranges::devices_right` meets its contract: devices 1 to i have passed. Assumes nothing.
-use Prim.Native.Nat.{◌≤◌, ◌-◌}
-use mathlib.Core.Bool.{true}
-use mathlib.Core.Path.{◌≡◌}
-use Rattle.sound.specs.Sound.{every_to}
 use Rattle.sound.proofs.Questions
-use Rattle.writer.specs.Tests.{device_right}
 use Rattle.writer.proofs.Testing
 use borrow.Author.Rules.{rules}
 use Rattle.writer.proofs.ranges.devices_right.Goals as goal

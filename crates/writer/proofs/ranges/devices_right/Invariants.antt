@@ -3,9 +3,7 @@ use Prim.Native.Nat.{◌≤◌, ◌-◌}
 use mathlib.Core.Bool.{true}
 use mathlib.Core.Path.{◌≡◌}
 use Rattle.sound.specs.Sound.{every_to}
-use Rattle.sound.proofs.Questions
 use Rattle.writer.specs.Tests.{device_right}
-use Rattle.writer.proofs.Testing
 use Rattle.writer.proofs.ranges.devices_right.Given as goal
 
 abbrev pub invariant-loop-i : goal.invariant-loop-i

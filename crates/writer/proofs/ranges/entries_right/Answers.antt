@@ -1,12 +1,6 @@
 -- `writer::ranges::entries_right` meets its contract: entries 1 to i have passed. Assumes nothing.
-use Prim.Native.Nat.{◌+◌, ◌≤◌, ◌-◌}
-use mathlib.Core.Bool.{true}
-use mathlib.Core.Path.{◌≡◌, ◌∙◌}
-use borrow.Author.Tests.{not-true, not-false}
-use Rattle.sound.specs.Sound.{every_to}
+use mathlib.Core.Path.{◌∙◌}
 use Rattle.sound.proofs.Questions
-use Rattle.model.specs.Config.{entry_place}
-use Rattle.writer.specs.Tests.{entry_right}
 use Rattle.writer.proofs.Testing
 use borrow.Author.Rules.{rules}
 use Rattle.writer.proofs.ranges.entries_right.Goals as goal

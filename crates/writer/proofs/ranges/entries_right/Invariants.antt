@@ -1,13 +1,10 @@
 -- `writer::ranges::entries_right` meets its contract: entries 1 to i have passed. Assumes nothing.
 use Prim.Native.Nat.{◌+◌, ◌≤◌, ◌-◌}
 use mathlib.Core.Bool.{true}
-use mathlib.Core.Path.{◌≡◌, ◌∙◌}
-use borrow.Author.Tests.{not-true, not-false}
+use mathlib.Core.Path.{◌≡◌}
 use Rattle.sound.specs.Sound.{every_to}
-use Rattle.sound.proofs.Questions
 use Rattle.model.specs.Config.{entry_place}
 use Rattle.writer.specs.Tests.{entry_right}
-use Rattle.writer.proofs.Testing
 use Rattle.writer.proofs.ranges.entries_right.Given as goal
 
 abbrev pub invariant-loop-i : goal.invariant-loop-i

@@ -1,7 +1,5 @@
 -- `writer::ranges::in_ranges` meets its contract: counts, objects, devices, values. Assumes nothing.
-use borrow.Author.Tests.{not-true, not-false}
 use Rattle.writer.proofs.Testing
-use borrow.Author.Rules.{rules}
 use Rattle.writer.proofs.ranges.in_ranges.Goals as goal
 
 pub returns-then-not-counts_right : goal.returns-then-not-counts_right

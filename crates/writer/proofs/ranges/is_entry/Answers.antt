@@ -1,6 +1,5 @@
 -- `writer::ranges::is_entry` meets its contract: object, mode and stored value, one after the other. Assumes nothing.
 use Rattle.writer.proofs.Testing
-use borrow.Author.Rules.{rules}
 use Rattle.writer.proofs.ranges.is_entry.Goals as goal
 
 pub returns-then-o-eq0 : goal.returns-then-o-eq0

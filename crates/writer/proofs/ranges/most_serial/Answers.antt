@@ -1,6 +1,5 @@
 -- `writer::ranges::most_serial` meets its contract: by the edition. Assumes nothing.
 use Rattle.writer.proofs.Testing
-use borrow.Author.Rules.{rules}
 use Rattle.writer.proofs.ranges.most_serial.Goals as goal
 
 pub returns-then-edition-lt-SERIAL_EDITION : goal.returns-then-edition-lt-SERIAL_EDITION

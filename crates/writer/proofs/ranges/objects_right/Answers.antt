@@ -1,11 +1,6 @@
 -- `writer::ranges::objects_right` meets its contract: objects 1 to i have passed. Assumes nothing.
-use Prim.Native.Nat.{◌≤◌, ◌-◌}
-use mathlib.Core.Bool.{true}
-use mathlib.Core.Path.{◌≡◌, sym, ◌∙◌}
-use borrow.Author.Tests.{not-true, not-false}
-use Rattle.sound.specs.Sound.{every_to}
+use mathlib.Core.Path.{sym, ◌∙◌}
 use Rattle.sound.proofs.Questions
-use Rattle.writer.specs.Tests.{object_right}
 use Rattle.writer.proofs.Testing
 use borrow.Author.Rules.{rules}
 use Rattle.writer.proofs.ranges.objects_right.Goals as goal

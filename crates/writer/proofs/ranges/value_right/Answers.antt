@@ -1,6 +1,5 @@
 -- `writer::ranges::value_right` meets its contract: the count, then the entries. Assumes nothing.
 use Rattle.writer.proofs.Testing
-use borrow.Author.Rules.{rules}
 use Rattle.writer.proofs.ranges.value_right.Goals as goal
 
 pub returns-then-n-gt-MOST_ENTRIES : goal.returns-then-n-gt-MOST_ENTRIES

@@ -1,12 +1,6 @@
 -- `writer::ranges::values_right` meets its contract: values 1 to i have passed. Assumes nothing.
-use Prim.Native.Nat.{◌≤◌, ◌-◌}
-use mathlib.Core.Bool.{true}
-use mathlib.Core.Path.{◌≡◌, sym, ◌∙◌}
-use borrow.Author.Tests.{not-true, not-false}
-use Rattle.sound.specs.Sound.{every_to}
+use mathlib.Core.Path.{sym, ◌∙◌}
 use Rattle.sound.proofs.Questions
-use Rattle.writer.specs.Tests.{value_right}
-use Rattle.writer.proofs.Testing
 use borrow.Author.Rules.{rules}
 use Rattle.writer.proofs.ranges.values_right.Goals as goal
 

@@ -1,12 +1,9 @@
 -- `writer::ranges::values_right` meets its contract: values 1 to i have passed. Assumes nothing.
 use Prim.Native.Nat.{◌≤◌, ◌-◌}
 use mathlib.Core.Bool.{true}
-use mathlib.Core.Path.{◌≡◌, sym, ◌∙◌}
-use borrow.Author.Tests.{not-true, not-false}
+use mathlib.Core.Path.{◌≡◌}
 use Rattle.sound.specs.Sound.{every_to}
-use Rattle.sound.proofs.Questions
 use Rattle.writer.specs.Tests.{value_right}
-use Rattle.writer.proofs.Testing
 use Rattle.writer.proofs.ranges.values_right.Given as goal
 
 abbrev pub invariant-loop-i : goal.invariant-loop-i
