@@ -10,7 +10,7 @@ use std::rt::Files;
 use std::str;
 
 // The bytes of a file at the start of buf, and how many there are. A file that is absent or cannot be read counts as
-// empty, and one that is longer fills buf. So does one whose name is not UTF-8, which the library has no name for.
+// empty, and one that is longer fills buf. A file whose name is not UTF-8 cannot be read: today's library opens none.
 pub fn read_file(rt: &impl Files, path: &[u8], buf: &mut [u8]) -> usize
     ensures { IsPrefixLen result buf.new }
 {

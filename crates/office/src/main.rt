@@ -6,8 +6,8 @@
 use files::read_file;
 use report::{MOST_FILE, MOST_SESSION, MOST_TEXT, report_whole};
 
-// One byte more than a file may have is read, so that `long` shows. The program ends with 0 also where its text cannot be
-// written.
+// One byte more than a file may have is read, so that `long` shows. The program ends with 0 also where its text cannot
+// be written.
 fn main(rt: HostRuntime) {
     let mut line = [0u8; MOST_FILE + 1];
     let mut session = [0u8; MOST_SESSION + 1];

@@ -43,14 +43,19 @@ fn words_of(text: &str) -> &str {
     }
 }
 
-// Says on standard error what failed: the file, a colon and the system's words.
+// Says on standard error what failed: the file, a colon and the system's words; without memory, also their number.
 fn complain(rt: &(impl Eprint + Alloc), path: &str, error: io::Error) -> io::Result<()> {
-    let text = format!(in rt.alloc(); "{error}")?;
-    let words = words_of(text.as_str());
-    eprintln!(rt; "{path}: {words}")
+    match format!(in rt.alloc(); "{error}") {
+        Ok(text) => {
+            let words = words_of(text.as_str());
+            eprintln!(rt; "{path}: {words}")
+        }
+        Err(_) => eprintln!(rt; "{path}: {error}"),
+    }
 }
 
-// One byte more than a file may have is read, so that `long` shows. The program ends with 0 whatever it could not write.
+// One byte more than a file may have is read, so that `long` shows. The program ends with 0 whatever it could not
+// write.
 fn main(rt: HostRuntime) {
     let mut line = [0u8; MOST_FILE + 1];
     let mut text = [0u8; MOST_WORD];
