@@ -20,7 +20,7 @@ returns-then-s-end-eq0 c =
     ∙ Numbers.form_bad _ _ _
     (Numbers.formed_padded _ _ c.if-n-ge-MOST_BYTES.false
     (Numbers.shortest_not _ _ _ (Numbers.last_byte _ _ _ c.last-end.ensures)
-    c.if-n-gt0.true c.if-s-end-eq0.true)))
+    (omega arith) c.if-s-end-eq0.true)))
 
 pub returns : goal.returns
 returns c =
