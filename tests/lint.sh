@@ -116,29 +116,23 @@ for name in sys.argv[1:]:
     echo "lint: ${#python[@]} Python files and ${#shell[@]} shell scripts"
 }
 
-# No line of over 120 characters, no file of over 400 lines. Of Rattle some lines are wider: names grew when the
-# repository was brought to rattle-kit-13f. They may not become more.
+# No line of over 120 characters, no file of over 400 lines.
 lint_sizes() {
     mapfile -t written < <(files | grep -E '\.(antt|rt|rs|c|h|py|sh)$')
     python3 -W error -c '
 import sys
-wide, most, faults, longer, most_longer = 120, 400, 0, [], 200
+wide, most, faults = 120, 400, 0
 for name in sys.argv[1:]:
     with open(name, encoding="utf-8") as file:
         rows = file.read().splitlines()
     for place, row in enumerate(rows, 1):
-        if len(row) > wide and name.endswith((".antt", ".rt")):
-            longer.append(f"lint: {name}, line {place}, has {len(row)} characters")
-        elif len(row) > wide:
+        if len(row) > wide:
             print(f"lint: {name}, line {place}, has {len(row)} characters", file=sys.stderr)
             faults += 1
     if len(rows) > most:
         print(f"lint: {name} has {len(rows)} lines", file=sys.stderr)
         faults += 1
-if len(longer) > most_longer:
-    longer.append(f"lint: {len(longer)} lines of Rattle are that wide, and there may be {most_longer}")
-    print(*longer, sep="\n", file=sys.stderr)
-sys.exit(faults > 0 or len(longer) > most_longer or not sys.argv[1:])
+sys.exit(faults > 0 or not sys.argv[1:])
 ' "${written[@]}"
     echo "lint: the sizes of ${#written[@]} files"
 }

@@ -171,8 +171,8 @@ abbrev pub object_of : Objects → ℕ → List ℕ → Objects
 object_of t o vs = set_object t o (get_or vs 0 0) (get_or vs 1 0) (get_or vs 2 0)
 
 unfoldable pub object_to : ℕ → List ℕ → Counts → ℕ → ℕ → Objects → Progress Objects
-object_to most s counts o at t = read_row_to most s at (object_row counts) (stop t) λ vs next. read
-    (object_of t o vs) next
+object_to most s counts o at t =
+    read_row_to most s at (object_row counts) (stop t) λ vs next. read (object_of t o vs) next
 
 abbrev pub object : List ℕ → Counts → ℕ → ℕ → Objects → Progress Objects
 object = object_to most_number
@@ -199,8 +199,8 @@ abbrev pub device_of : Devices → ℕ → List ℕ → Devices
 device_of t v vs = set_device t v (get_or vs 0 0) (get_or vs 1 0)
 
 unfoldable pub device_to : ℕ → List ℕ → Counts → ℕ → ℕ → Devices → Progress Devices
-device_to most s counts v at t = read_row_to most s at (device_row counts) (stop t) λ vs next. read
-    (device_of t v vs) next
+device_to most s counts v at t =
+    read_row_to most s at (device_row counts) (stop t) λ vs next. read (device_of t v vs) next
 
 abbrev pub device : List ℕ → Counts → ℕ → ℕ → Devices → Progress Devices
 device = device_to most_number

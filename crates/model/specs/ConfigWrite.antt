@@ -132,8 +132,8 @@ most_device_bytes = bytes_to most_values + bytes_to most_serial
 -- N1: how long a file is at most: edition and counts, objects, devices and values
 abbrev pub most_written : ℕ
 most_written =
-    most_counts_bytes + most_object_bytes * most_objects + most_device_bytes * most_devices + most_value_bytes *
-    most_values
+    most_counts_bytes + most_object_bytes * most_objects + most_device_bytes * most_devices
+    + most_value_bytes * most_values
 
 -- N1: the file of a configuration
 unfoldable pub file_of : Config → List ℕ
