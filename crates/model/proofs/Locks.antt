@@ -32,7 +32,17 @@ use Rattle.model.specs.declared.Actor.{Actor}
 use Rattle.model.specs.declared.Actor.TheVariants.{Driver, Device, External}
 use Rattle.model.specs.declared.Config.{Config}
 use Rattle.model.specs.declared.Operation.{Operation}
-use Rattle.model.proofs.Lists.{and_r, both_true, or_true, not_eqb, from1to-low, from1to-high, nth_past, nth-put-same, nth-put_cases}
+use Rattle.model.proofs.Lists.{
+  and_r,
+  both_true,
+  or_true,
+  not_eqb,
+  from1to-low,
+  from1to-high,
+  nth_past,
+  nth-put-same,
+  nth-put_cases,
+}
 use Rattle.model.proofs.ClosureLaws.{reads-active}
 use Rattle.model.proofs.Accepted.{Sound, load-sound}
 use Rattle.model.proofs.Facts.{Passed, passed}

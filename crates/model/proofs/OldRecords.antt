@@ -8,7 +8,38 @@ use lib.ListN.{length}
 use lib.Dec.{leb, eqb}
 use borrow.Author.Tests.{eqb-true, eq-eqb}
 use Rattle.model.specs.Number.{most_number, most_before, number_to}
-use Rattle.model.specs.Operation.{most_code, most_items, family_of, actor_of, with_head, refused, taken, number_by, counting, count_at_by, only, onward, and_then, turns, payload_by, item_by, pair_by, object_by, writing_by, copying_by, partitioning_by, activating_by, listing_by, deactivating_by, arguments_by, after_code_by, Parsed, ended, read_operation_by, read_operation}
+use Rattle.model.specs.Operation.{
+  most_code,
+  most_items,
+  family_of,
+  actor_of,
+  with_head,
+  refused,
+  taken,
+  number_by,
+  counting,
+  count_at_by,
+  only,
+  onward,
+  and_then,
+  turns,
+  payload_by,
+  item_by,
+  pair_by,
+  object_by,
+  writing_by,
+  copying_by,
+  partitioning_by,
+  activating_by,
+  listing_by,
+  deactivating_by,
+  arguments_by,
+  after_code_by,
+  Parsed,
+  ended,
+  read_operation_by,
+  read_operation,
+}
 use Rattle.model.specs.declared.Fault.TheVariants.{Form}
 use Rattle.model.specs.declared.Num.{Num}
 use Rattle.model.specs.declared.Num.TheVariants.{Got, Bad}
