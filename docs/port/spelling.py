@@ -2,7 +2,7 @@
 """Brings the repository's own definitions and lemmas to the spelling of today's Rattle: words in snake case, with a
 dash only where it joins two names (types and modules keep their capitals).
 
-usage: python3 tools/port/spelling.py      at the top of the repository, once, right after the kit's port.py
+usage: python3 docs/port/spelling.py      at the top of the repository, once, right after the kit's port.py
 
 spelling.tsv, beside this script, has each old name and its new one. Each name is turned wherever it stands (.antt, .rt
 and must-fail edits), and no two names fall together, so that the renaming is one to one and means nothing.
