@@ -1,6 +1,6 @@
 // A reader kept over the bytes of an operation (document 01: 'a small reader kept over the caller's bytes'): the bytes
-// and a place in them. A function over a struct that holds a reference is proved by hand, so each only makes the reader
-// or takes it apart, and leaves the work to one on the slice and the place. Others call `fields`, by plain values.
+// and a place in them. Each function only makes the reader or takes it apart, and leaves the work to one on the slice
+// and the place. Others call `fields`, by plain values.
 ghost use Rattle.std.specs.Prelude.{◌≡◌};
 ghost use Rattle.model.specs.Number.{number_at};
 ghost use Rattle.operation.specs.Raw.{content_at};

@@ -5,7 +5,7 @@ use mathlib.Core.Path.{◌≡◌, refl, sym, ◌∙◌, subst}
 use native.Mathlib.Numerals.{add-one}
 use mathlib.Core.List.{List}
 use mathlib.Core.Bool.{Bool, true, false, false≢true, ◌&&◌, ◌||◌}
-use lib.Dec.{eqb, leb}
+use lib.Dec.{ltb, eqb, leb}
 use lib.ListN.{length, get_or, drop, drop_of_length-le, length-drop}
 use lib.Seq.{drop-cons, get_or-drop}
 use borrow.Author.Tests.{lt-ltb, le-ltb, le-leb, lt-leb, leb-true, eq-eqb, ne_eqb}
@@ -161,9 +161,13 @@ module _ (t : List ℕ) (n : ℕ) where
   unfolding formed_to
   formed-long h = rw (le-ltb n most_bytes h)
 
-  pub formed_padded : n < most_bytes → shortest t n ≡ false → formed t n ≡ false
+  pub formed_padded : shortest t n ≡ false → formed t n ≡ false
   unfolding formed_to
-  formed_padded h p = rw (lt-ltb n most_bytes h, p)
+  formed_padded p = rw p (none (ltb n most_bytes) (leb (value_of t n) most_number))
+    where
+      none : (few small : Bool) → (few && false && small) ≡ false
+      none true small = refl
+      none false small = refl
 
   pub formed-right : (v : ℕ) → v ≡ value_of t n → n < most_bytes → shortest t n ≡ true → v ≤ most_number
       → formed t n ≡ true

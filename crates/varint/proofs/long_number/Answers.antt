@@ -12,13 +12,13 @@ returns-then-s-end c = sym (Numbers.number_cut _ _ _ c.last-end.ensures c.if-s-e
 pub returns-then-n-ge-MOST_BYTES : goal.returns-then-n-ge-MOST_BYTES
 returns-then-n-ge-MOST_BYTES c =
     sym (Numbers.number_form _ _ _ c.last-end.ensures (omega arith)
-    ∙ Numbers.form_bad _ _ _ (Numbers.formed-long _ _ c.if-n-ge-MOST_BYTES.true))
+    ∙ Numbers.form_bad _ _ _ (Numbers.formed-long _ _ (omega (arith, c.if-n-ge-MOST_BYTES.true))))
 
 pub returns-then-s-end-eq0 : goal.returns-then-s-end-eq0
 returns-then-s-end-eq0 c =
     sym (Numbers.number_form _ _ _ c.last-end.ensures (omega arith)
     ∙ Numbers.form_bad _ _ _
-    (Numbers.formed_padded _ _ c.if-n-ge-MOST_BYTES.false
+    (Numbers.formed_padded _ _
     (Numbers.shortest_not _ _ _ (Numbers.last_byte _ _ _ c.last-end.ensures)
     (omega arith) c.if-s-end-eq0.true)))
 
