@@ -107,7 +107,7 @@ def arms(function):
     if not body:
         raise Fault(f"{CODES} has no match over the code in {function}")
     return [(ranges, element or word) for ranges, word, element in re.findall(
-        r"^\s+([\d_][\d_ |.=]*?) => ([\w:]+)(?:\(s, (Element::\w+))?", body[1], re.MULTILINE)]
+        r"^\s+([\d_][\d_ |.=]*?) => ([\w:]+)(?:\(\w, (Element::\w+))?", body[1], re.MULTILINE)]
 
 
 def chosen(function, code):

@@ -17,6 +17,7 @@ use Rattle.model.proofs.ClosureExact.{survey_exact}
 use Rattle.scene.specs.Digits.{bit, Has}
 use Rattle.scene.specs.Rules.{opens, stores, crossing, naming}
 use Rattle.scene.specs.Scene.{Scene, entry_of, count_of, In, ValuesOk}
+use Rattle.std.specs.Prelude.{Option, Some, None}
 use Rattle.closure.specs.Words.{ReaderIn, PairIn, Sound, Closed}
 use Rattle.closure.specs.Search.{
   Fines,
@@ -33,7 +34,6 @@ use Rattle.closure.specs.Search.{
   IsNaming,
 }
 use Rattle.closure.specs.declared.search.Finding.{Finding}
-use Rattle.closure.specs.declared.search.Finding.TheVariants.{Found, Nothing}
 use Rattle.scene.proofs.Ranges.{opens_of, stores_of, entry-there}
 
 -- words to which no rule adds have all that the rules give
@@ -72,14 +72,11 @@ module _ (m : Scene) (k : List ℕ) (closed : Closed m k) where
         (opened_in c o v p e x y l h d ep, pair_in q)
 
 -- a strange entry by words that are right is a bad one by the rules
-module _ (m : Scene) (k f : List ℕ) (bad : ℕ → ℕ → Bool)
-    (ok : ValuesOk m.config.counts m.config.values.count m.config.values.entries)
-    (fines : Fines bad m.config.counts f) where
+module _ (m : Scene) (k f : List ℕ) (bad : ℕ → ℕ → Bool) (ok : ValuesOk m.config) (fines : Fines bad m.config f) where
   abbrev bad_of : ℕ → Entry → Bool
   bad_of c e = bad c e.object
 
-  strange_hit : Sound m k → (c o v j : ℕ)
-      → IsStrange m.config.values.count m.config.values.entries k f c o v j → Hit m bad_of c o v j
+  strange_hit : Sound m k → (c o v j : ℕ) → IsStrange m.config f k c o v j → Hit m bad_of c o v j
   strange_hit s c o v j b =
       let r = b.reading in
       let a = (s o).readers r.0 r.2 r.3 in
@@ -97,7 +94,7 @@ module _ (m : Scene) (k f : List ℕ) (bad : ℕ → ℕ → Bool)
       }
 
   -- nothing is strange when all is grown
-  pub answers_none : Ended m f k → Answers m bad_of Nothing
+  pub answers_none : Ended m f k → Answers m bad_of None
   answers_none s = λ c o v e r h b.
       let (x, y) = read_in m k s.closed r in
       let (j, low, lj, hj, is) = entry_place_lem m.config v h in
@@ -109,11 +106,11 @@ module _ (m : Scene) (k f : List ℕ) (bad : ℕ → ℕ → Bool)
       (subst (λ (e : Entry). bad c e.object ≡ true) is b))
 
   -- what is strange is found
-  pub answers_find : (s w : ℕ) (r : Finding)
-      → Finds m.config.values.count m.config.values.entries k f m.config.counts s w r
+  pub answers_find : (s w : ℕ) (r : Option Finding) → Finds m.config f k s w r
       → ((n : ℕ) → bit s n ≡ 1 → Suspected m f k n w) → (n : ℕ) × (bit s n ≡ 1) → Answers m bad_of r
-  answers_find s w (Found c o v j) l h some = strange_hit (h some.0 some.1).sound c o v j l
-  answers_find s w Nothing l h some =
+  answers_find s w (Some e) l h some =
+      strange_hit (h some.0 some.1).sound e.device e.descriptor e.value e.entry l
+  answers_find s w None l h some =
       let n = some.0 in
       let x = h n some.1 in
       let p = x.paired in
@@ -126,46 +123,47 @@ module _ (m : Scene) (k f : List ℕ) (bad : ℕ → ℕ → Bool)
 
 -- an answer is the computed one
 survey-answer : (config : Config) (b : State) (bad ok : ℕ → Entry → Bool)
-    → ((c : ℕ) (e : Entry) → ok c e ≡ not (bad c e)) → (r : Finding) → Answers (closure_of config b) bad r
-    → is_nothing r ≡ survey config b ok
-survey-answer config b bad ok is (Found c o v j) h =
+    → ((c : ℕ) (e : Entry) → ok c e ≡ not (bad c e)) → (r : Option Finding)
+    → Answers (closure_of config b) bad r → is_nothing r ≡ survey config b ok
+survey-answer config b bad ok is (Some e) h =
     sym (not-true (survey config b ok)
-    (λ s. no_both (ok c (entry_of (closure_of config b) v j))
-    ((survey_exact config b ok).0 s c o v h.read _ h.listed)
-    (is c _ ∙ ap not h.is_bad)))
-survey-answer config b bad ok is Nothing h =
+    (λ s. no_both (ok e.device (entry_of (closure_of config b) e.value e.entry))
+    ((survey_exact config b ok).0 s e.device e.descriptor e.value h.read _ h.listed)
+    (is e.device _ ∙ ap not h.is_bad)))
+survey-answer config b bad ok is None h =
     sym ((survey_exact config b ok).1
     (λ c o v r e l. is c e ∙ ap not (not-true (bad c e) (λ t. h c o v e r l t))))
 
 -- and so is its number; and the other way round
-pub number_of : (q : ℕ) (r : Finding) (t : Bool) → is_nothing r ≡ t → (finding_means q r).0 ≡ ask q t 0
-number_of q (Found c o v j) t h = ap (λ (b : Bool). ask q b 0) h
-number_of q Nothing t h = ap (λ (b : Bool). ask q b 0) h
+pub number_of : (q : ℕ) (r : Option Finding) (t : Bool) → is_nothing r ≡ t → (finding_means q r).0 ≡ ask q t 0
+number_of q (Some e) t h = ap (λ (b : Bool). ask q b 0) h
+number_of q None t h = ap (λ (b : Bool). ask q b 0) h
 
-pub nothing_of : (q : ℕ) (r : Finding) (t : Bool) → (finding_means (suc q) r).0 ≡ ask (suc q) t 0 → is_nothing r ≡ t
-nothing_of q (Found c o v j) true h = absurd (omega arith)
-nothing_of q (Found c o v j) false h = refl
-nothing_of q Nothing true h = refl
-nothing_of q Nothing false h = absurd (omega arith)
+pub nothing_of : (q : ℕ) (r : Option Finding) (t : Bool) → (finding_means (suc q) r).0 ≡ ask (suc q) t 0
+    → is_nothing r ≡ t
+nothing_of q (Some e) true h = absurd (omega arith)
+nothing_of q (Some e) false h = refl
+nothing_of q None true h = refl
+nothing_of q None false h = absurd (omega arith)
 
 module _ (config : Config) (b : State) where
   -- questions 19 and 21
   abbrev Crossing : ℕ → Entry → Bool
   Crossing c e = crossing config.objects.kind b c e.object
 
-  pub crossing-answer : (q : ℕ) (r : Finding) → Answers (closure_of config b) Crossing r
+  pub crossing-answer : (q : ℕ) (r : Option Finding) → Answers (closure_of config b) Crossing r
       → (finding_means q r).0 ≡ ask q (confined config b) 0
   unfolding crossing
   crossing-answer q r h =
       number_of q r (confined config b)
       (survey-answer config b Crossing (λ c e. not (crosses config b c e)) (λ c e. refl) r h)
 
-  pub crossing-entry : (q : ℕ) (r : Finding) → Answers (closure_of config b) Crossing r
+  pub crossing-entry : (q : ℕ) (r : Option Finding) → Answers (closure_of config b) Crossing r
       → IsCrossing config b (finding_means q r)
   unfolding crossing
-  crossing-entry q (Found c o v j) h = λ k.
+  crossing-entry q (Some e) h = λ k.
       record { read = h.read; there = h.there; listed = h.listed; is_bad = h.is_bad }
-  crossing-entry q Nothing h = λ k. absurd (k refl)
+  crossing-entry q None h = λ k. absurd (k refl)
 
   -- question 20
   module _ (table : List ℕ) (but : ℕ) where
@@ -179,7 +177,7 @@ module _ (config : Config) (b : State) where
     de_morgan true t = refl
     de_morgan false t = refl
 
-    pub naming-answer : (r : Finding) → Answers (closure_of config b) Naming r
+    pub naming-answer : (r : Option Finding) → Answers (closure_of config b) Naming r
         → (finding_means 20 r).0 ≡ ask 20 (unnamed config b concerned but) 0
     unfolding naming
     naming-answer r h =
@@ -187,9 +185,9 @@ module _ (config : Config) (b : State) where
         (survey-answer config b Naming (λ c e. eqb c but || not (concerned e.object))
         (λ c e. de_morgan (eqb c but) (concerned e.object)) r h)
 
-    pub naming-entry : (r : Finding) → Answers (closure_of config b) Naming r
+    pub naming-entry : (r : Option Finding) → Answers (closure_of config b) Naming r
         → IsNaming config b concerned but (finding_means 20 r)
     unfolding naming
-    naming-entry (Found c o v j) h = λ k.
+    naming-entry (Some e) h = λ k.
         record { read = h.read; there = h.there; listed = h.listed; is_bad = h.is_bad }
-    naming-entry Nothing h = λ k. absurd (k refl)
+    naming-entry None h = λ k. absurd (k refl)

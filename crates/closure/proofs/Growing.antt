@@ -10,10 +10,11 @@ use lib.Bits.{bit_or}
 use lib.Dec.{eqb}
 use lib.ListN.{get_or, length, set}
 use borrow.Author.Tests.{eq-eqb, ne_eqb}
-use Rattle.model.specs.Config.{most_devices, Entry, entry_place, entry_at}
+use Rattle.model.specs.Config.{most_devices, Entry, entry_place}
+use Rattle.model.specs.declared.Config.{Config}
 use Rattle.model.specs.Closure.{stored, next}
 use Rattle.model.proofs.Lists.{and_l, and_r, both_true}
-use Rattle.scene.specs.Digits.{bit, Without, Has, Wider}
+use Rattle.scene.specs.Digits.{bit, Without, Wider}
 use Rattle.scene.specs.Rules.{holds_value, reads_mode, writes_mode, opens, stores}
 use Rattle.scene.specs.Scene.{Scene, entry_of, count_of, In}
 use Rattle.closure.specs.Words.{
@@ -28,7 +29,7 @@ use Rattle.closure.specs.Words.{
   EntryIn,
   EntriesIn,
 }
-use Rattle.closure.specs.Search.{NoStrange}
+use Rattle.closure.specs.Search.{MayName, NoStrange}
 use Rattle.scene.proofs.Digits.{or_out, bit_zero, pow_bit, pow_only, mod_bit}
 use Rattle.scene.proofs.Ranges.{opens-reads, opens-descriptor, stores_on, stores-writes, stores-kind, entry-there}
 use Rattle.closure.proofs.Giving.{reader_wider}
@@ -214,21 +215,14 @@ module _ (m : Scene) (on : m.storing ≡ true) (k k' : List ℕ) (r v j : ℕ)
             (f.only o (u + most_devices) b);
       }
 
--- the same at a place
-pub followed_at : {kind k k' : List ℕ} {r : ℕ} (table : List ℕ) (at p : ℕ) → at ≡ p → Followed kind
-    (entry_at table at) r k k'
-    → Followed kind (entry_at table p) r k k'
-followed_at {kind} {k} {k'} {r} table at p is f =
-    subst (λ (p : ℕ). Followed kind (entry_at table p) r k k') is f
-
 -- entries that name only objects which their devices may name: one entry more
-pub strange_more : (table f : List ℕ) (r v i at s : ℕ) → at ≡ entry_place v i → s ≡ 0
-    → Without r (get_or f (get_or table at 0) 0) s → NoStrange table f r v i → NoStrange table f r v (i + 1)
-strange_more table f r v i at s is z w g j n l h e =
+pub strange_more : (config : Config) (f : List ℕ) (r v i s : ℕ) → s ≡ 0
+    → Without r (get_or f (get_or config.values.entries (entry_place v i) 0) 0) s → NoStrange config f r v i
+    → NoStrange config f r v (i + 1)
+strange_more config f r v i s z w g j n l h e =
     by_cases (ℕ_discrete j i)
-    (λ q. subst (λ (j : ℕ). Has f (get_or table (entry_place v j) 0) n) (sym q)
-    (subst (λ (p : ℕ). Has f (get_or table p 0) n) is
-    (⊎_elim (λ x. x) (λ x. absurd (bit_zero n (subst (λ (y : ℕ). bit y n ≡ 1) z x))) (w.all n e))))
+    (λ q. subst (λ (j : ℕ). MayName config f n v j) (sym q)
+    (⊎_elim (λ x. x) (λ x. absurd (bit_zero n (subst (λ (y : ℕ). bit y n ≡ 1) z x))) (w.all n e)))
     (λ q. g j n l (omega arith) e)
 
 pub low_mod : (w : ℕ) → Low (w % 2 ^ most_devices)

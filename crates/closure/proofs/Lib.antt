@@ -4,3 +4,4 @@ pub mod Turning
 pub mod Starting
 pub mod Finding
 pub mod Answering
+pub mod Firsts

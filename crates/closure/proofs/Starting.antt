@@ -4,19 +4,20 @@ use native.Mathlib.Omega.{arith}
 use native.Mathlib.Decide.{ℕ_discrete}
 use mathlib.Core.Path.{◌≡◌, refl, sym, ap, subst, ◌∙◌}
 use mathlib.Core.Logic.{inl, ⊎_elim, by_cases}
-use mathlib.Core.Bool.{Bool, true, false, cond, false≢true}
-use mathlib.Core.List.{List, []}
+use mathlib.Core.Bool.{Bool, true, false, false≢true}
+use mathlib.Core.List.{List}
 use lib.Bits.{bit_or}
 use lib.ListN.{get_or, length, set, replicate}
 use lib.Seq.{get_or-set_same, get_or-set_other}
 use Rattle.model.specs.Config.{most_devices}
 use Rattle.model.specs.State.{State, held}
 use Rattle.model.specs.Closure.{start, own}
-use Rattle.model.specs.declared.Counts.{Counts}
 use Rattle.model.specs.declared.Config.{Config}
 use Rattle.scene.specs.Digits.{bit, Has, Wider}
 use Rattle.scene.specs.Rules.{starts, owned}
-use Rattle.scene.specs.Scene.{Scene, search_config, In, OwnersOk}
+use Rattle.scene.specs.Scene.{Scene, In, OwnersOk}
+use Rattle.closure.specs.declared.spread.Readers.{Readers}
+use Rattle.closure.specs.declared.spread.Found.{Found}
 use Rattle.closure.specs.Words.{
   Covers,
   Covered,
@@ -32,7 +33,7 @@ use Rattle.closure.specs.Words.{
   FirstWord,
 }
 use Rattle.closure.specs.Search.{Going}
-use Rattle.scene.proofs.Digits.{or_left, or_right, bit_zero, pow_bit, pow_only, mod_bit, bit_mod, some_bit}
+use Rattle.scene.proofs.Digits.{or_left, or_right, bit_zero, pow_bit, pow_only, mod_bit, bit_mod}
 use Rattle.scene.proofs.Ranges.{
   owners_of,
   live_test,
@@ -48,16 +49,12 @@ use Rattle.scene.proofs.Widening.{set_word, no_digit}
 use Rattle.closure.proofs.Growing.{right_or}
 
 -- the word of the active device whose hardcoded descriptor o is
-module _ (n : Counts) (kind class owner : List ℕ) (b : State) (o : ℕ) where
-  -- a configuration with these columns
-  abbrev config : Config
-  config = search_config (record { hardcoded = []; serial = [] }) n kind class owner [] []
-
+module _ (config : Config) (b : State) (o : ℕ) where
   abbrev Word : ℕ → Type 0
-  Word x = OwnWord kind class owner b o x
+  Word x = OwnWord config b o x
 
   abbrev is_owned : ℕ → Bool
-  is_owned c = owned kind class owner b c o
+  is_owned c = owned config.objects.kind config.objects.class config.objects.owner b c o
 
   pub own_none : ((i : ℕ) → is_owned (i + 1) ≡ true → ⊥) → Word 0
   own_none f =
@@ -67,60 +64,52 @@ module _ (n : Counts) (kind class owner : List ℕ) (b : State) (o : ℕ) where
         all = λ i e. absurd (f i e);
       }
 
-  pub own-kind : (get_or kind o 0 ≡ 4 → ⊥) → Word 0
+  pub own-kind : (get_or config.objects.kind o 0 ≡ 4 → ⊥) → Word 0
   own-kind h = own_none (λ i e. h (owned-kind config b (i + 1) o e))
 
-  pub own-low : get_or owner o 0 < 1 → Word 0
+  pub own-low : get_or config.objects.owner o 0 < 1 → Word 0
   own-low h = own_none (λ i e. omega (arith, owned-owner config b (i + 1) o e))
 
-  pub own-high : OwnersOk n class owner → In n.objects o → n.devices < get_or owner o 0 → Word 0
+  pub own-high : OwnersOk config → In config.counts.objects o → config.counts.devices < get_or config.objects.owner o 0
+      → Word 0
   own-high ok object h =
       own_none (λ i e. let k = ok.device_known o object (owned-class config b (i + 1) o e) in omega (arith, k.high))
 
-  pub own_word : (c : ℕ) → c ≡ get_or owner o 0 → 1 ≤ c → c ≤ most_devices → (t : Bool) → t ≡ is_owned c
-      → Word (cond t (2 ^ (c - 1)) 0)
-  own_word c is p q true e =
+  pub own_one : (c : ℕ) → c ≡ get_or config.objects.owner o 0 → 1 ≤ c → c ≤ most_devices → is_owned c ≡ true
+      → Word (2 ^ (c - 1))
+  own_one c is p q e =
       record {
         low = λ i x. omega (arith, pow_only (c - 1) i x);
         right = λ i x.
             (let y : c ≡ i + 1 = omega (arith, pow_only (c - 1) i x) in
-            subst (λ (c : ℕ). is_owned c ≡ true) y (sym e));
+            subst (λ (c : ℕ). is_owned c ≡ true) y e);
         all = λ i x.
             (let y : c - 1 ≡ i = omega (arith, is, owned-owner config b (i + 1) o x) in
             subst (λ (k : ℕ). bit (2 ^ (c - 1)) k ≡ 1) y (pow_bit (c - 1)));
       }
-  own_word c is p q false e =
+
+  pub own-not : (c : ℕ) → c ≡ get_or config.objects.owner o 0 → is_owned c ≡ false → Word 0
+  own-not c is e =
       own_none
-      (λ i x. false≢true (e ∙ subst (λ (c : ℕ). is_owned c ≡ true) (sym (is ∙ owned-owner config b (i + 1) o x)) x))
+      (λ i x. false≢true (sym e ∙ subst (λ (c : ℕ). is_owned c ≡ true) (sym (is ∙ owned-owner config b (i + 1) o x)) x))
 
 -- the value that a descriptor holds
-pub value_none : (w : ℕ) (kind : List ℕ) (b : State) (o : ℕ) → (starts kind b o ≡ true → ⊥) → ValueWord w kind b o 0
-value_none w kind b o f = record { right = λ n e. absurd (bit_zero n e); all = λ e. absurd (f e) }
+module _ (config : Config) (b : State) (o : ℕ) where
+  pub value_none : (starts config.objects.kind b o ≡ true → ⊥) → ValueWord config b o 0
+  value_none f = record { right = λ n e. absurd (bit_zero n e); all = λ e. absurd (f e) }
 
-pub value_one : (w : ℕ) (kind : List ℕ) (b : State) (o v x : ℕ) → starts kind b o ≡ true → v ≡ held b o
-    → held b o ≤ w → x ≡ 2 ^ (v + most_devices) → ValueWord w kind b o x
-value_one w kind b o v x s is few e =
-    let p : x ≡ 2 ^ (held b o + most_devices) = e ∙ ap (λ (v : ℕ). 2 ^ (v + most_devices)) is in
-    record {
-      right = λ n h. (s, pow_only (held b o + most_devices) n (subst (λ (y : ℕ). bit y n ≡ 1) p h), few);
-      all = λ h. subst (λ (y : ℕ). bit y (held b o + most_devices) ≡ 1) (sym p) (pow_bit (held b o + most_devices));
-    }
-
--- its word has no device
-pub value-above : {w : ℕ} {kind : List ℕ} {b : State} {o x : ℕ} → ValueWord w kind b o x → x % 2 ^ most_devices ≡ 0
-value-above {x = x} f =
-    by_cases (ℕ_discrete (x % 2 ^ most_devices) 0) (λ z. z)
-    (λ z.
-    let (k, e) = some_bit most_devices (x % 2 ^ most_devices) z (omega arith) in
-    let (low, h) = mod_bit x most_devices k e in
-    absurd (omega (arith, low, (f.right k h).1)))
+  pub value_one : (v x : ℕ) → starts config.objects.kind b o ≡ true → v ≡ held b o → held b o ≤ config.counts.values
+      → x ≡ 2 ^ (v + most_devices) → ValueWord config b o x
+  value_one v x s is few e =
+      let p : x ≡ 2 ^ (held b o + most_devices) = e ∙ ap (λ (v : ℕ). 2 ^ (v + most_devices)) is in
+      record {
+        right = λ n h. (s, pow_only (held b o + most_devices) n (subst (λ (y : ℕ). bit y n ≡ 1) p h), few);
+        all = λ h. subst (λ (y : ℕ). bit y (held b o + most_devices) ≡ 1) (sym p) (pow_bit (held b o + most_devices));
+      }
 
 -- the word of descriptor o before any step
-module _ (m : Scene) (o x : ℕ)
-    (ok : OwnersOk m.config.counts m.config.objects.class m.config.objects.owner)
-    (i : In m.config.counts.objects o)
-    (w : OwnWord m.config.objects.kind m.config.objects.class m.config.objects.owner
-    m.state o x) where
+module _ (m : Scene) (o x : ℕ) (ok : OwnersOk m.config) (i : In m.config.counts.objects o)
+    (w : OwnWord m.config m.state o x) where
   own-right : RightWord m o x
   own-right =
       record {
@@ -135,8 +124,7 @@ module _ (m : Scene) (o x : ℕ)
       }
 
   -- its device and its value
-  pub first_word : (y : ℕ) → ValueWord m.config.counts.values m.config.objects.kind m.state o y
-      → FirstWord m o (bit_or x y)
+  pub first_word : (y : ℕ) → ValueWord m.config m.state o y → FirstWord m o (bit_or x y)
   first_word y f =
       record {
         right = right_or own-right
@@ -200,12 +188,12 @@ module _ (m : Scene) where
       }
 
 -- one descriptor more: its devices read its values
-module _ (k t t' : List ℕ) (d d' o x : ℕ) (few : o < length k) (zero : get_or k o 0 ≡ 0)
-    (g : Gave (λ u. bit x (u + most_devices) ≡ 1) (x % 2 ^ most_devices) t t' d d') where
+module _ (k : List ℕ) (t t' : Readers) (o x : ℕ) (few : o < length k) (zero : get_or k o 0 ≡ 0)
+    (g : Gave (λ u. bit x (u + most_devices) ≡ 1) (x % 2 ^ most_devices) t t') where
   here : (n : ℕ) → bit x n ≡ 1 → Has (set k o x) o n
   here n e = subst (λ (y : ℕ). bit y n ≡ 1) (sym (get_or-set_same k o x 0 few)) e
 
-  pub seed_by : By k t → By (set k o x) t'
+  pub seed_by : By k t.of → By (set k o x) t'.of
   seed_by b v n e =
       let w = wider_zero some_scene k o x few zero in
       ⊎_elim (λ q. paired-wider w (b v n q))
@@ -214,12 +202,12 @@ module _ (k t t' : List ℕ) (d d' o x : ℕ) (few : o < length k) (zero : get_o
       record { object = o; reading = (n, refl, a.0, here n a.1); paired = here (v + most_devices) q.0 })
       (g.only v n e)
 
-  pub seed_covers : Covered k t → Covered (set k o x) t'
+  pub seed_covers : Covered k t.of → Covered (set k o x) t'.of
   seed_covers c =
-      set_word (λ j y. Covers y t') k o x few (λ v n p e h. g.all v e n (bit_mod x most_devices n p h))
+      set_word (λ j y. Covers y t'.of) k o x few (λ v n p e h. g.all v e n (bit_mod x most_devices n p h))
       (λ j v n p e h. g.wider.kept v n (c j v n p e h))
 
-  pub seed_marked : ((v n : ℕ) → Has t v n → bit d v ≡ 1) → (v n : ℕ) → Has t' v n → bit d' v ≡ 1
+  pub seed_marked : ((v n : ℕ) → Has t.of v n → bit t.todo v ≡ 1) → (v n : ℕ) → Has t'.of v n → bit t'.todo v ≡ 1
   seed_marked f v n e = ⊎_elim (λ q. g.kept v (f v n q)) (λ q. q) (g.marked v n e)
 
   pub seed_zero : ((j : ℕ) → o ≤ j → get_or k j 0 ≡ 0) → (j : ℕ) → o + 1 ≤ j → get_or (set k o x) j 0 ≡ 0
@@ -240,8 +228,8 @@ pub covers_none : (i : ℕ) (t : List ℕ) → Covered (replicate i 0) t
 covers_none i t o v n p e h = absurd (no_digit i o n h)
 
 -- nothing is followed yet
-pub going_start : (m : Scene) (f k t : List ℕ) (d i : ℕ) → Seeded m k t d → Going m f k t (replicate i 0) d
-going_start m f k t d i s =
+pub going_start : (m : Scene) (f : List ℕ) (x : Found) (i : ℕ) → Seeded m x → Going m f x (replicate i 0)
+going_start m f x i s =
     record {
       begun = s.begun;
       by = s.by;

@@ -10,10 +10,11 @@ use lib.Bits.{bit_or}
 use lib.Pow.{pow_pos}
 use lib.ListN.{get_or, length, set}
 use lib.Seq.{get_or-set_same}
-use Rattle.model.specs.Config.{most_devices, entry_place, hardcoded_to}
+use Rattle.model.specs.Config.{most_devices, hardcoded_to}
 use Rattle.model.specs.Closure.{active}
 use Rattle.scene.specs.Digits.{bit, Cleared, Without, Has, Wider}
 use Rattle.scene.specs.Scene.{Scene, entry_of, count_of, In}
+use Rattle.closure.specs.declared.spread.Found.{Found}
 use Rattle.closure.specs.Words.{
   ReaderIn,
   PairIn,
@@ -34,13 +35,17 @@ use Rattle.scene.proofs.Widening.{set_word, wider_set}
 use Rattle.closure.proofs.Growing.{entry-wider, low_mod}
 
 -- a value that has something to do
-module _ (m : Scene) (f k t a : List ℕ) (d d' w v : ℕ) (g : Going m f k t a d) (c : Cleared d v d')
-    (n : Without (get_or t v 0) (get_or a v 0) w) where
+module _ (m : Scene) (f : List ℕ) (x : Found) (a : List ℕ) (d w v : ℕ) (g : Going m f x a)
+    (c : Cleared x.readers.todo v d) (n : Without (get_or x.readers.of v 0) (get_or a v 0) w) where
+  -- it has no more
+  abbrev cleared : Found
+  cleared = record { known = x.known; readers = record { of = x.readers.of; todo = d } }
+
   -- the devices that are new to it
   abbrev fresh : ℕ
   fresh = w % 2 ^ most_devices
 
-  fresh-there : (i : ℕ) → bit fresh i ≡ 1 → Has t v i
+  fresh-there : (i : ℕ) → bit fresh i ≡ 1 → Has x.readers.of v i
   fresh-there i e = n.here i (mod_bit w most_devices i e).1
 
   pub fresh-each : Each m fresh v
@@ -55,13 +60,13 @@ module _ (m : Scene) (f k t a : List ℕ) (d d' w v : ℕ) (g : Going m f k t a 
         record { object = p.object; read = y.reads v (s.values v p.paired).collected },
       )
 
-  old_or_fresh : (i : ℕ) → Has t v i → Has a v i ⊎ (bit fresh i ≡ 1)
+  old_or_fresh : (i : ℕ) → Has x.readers.of v i → Has a v i ⊎ (bit fresh i ≡ 1)
   old_or_fresh i e =
       let r = (g.by v i e).reading in
       let l : i < most_devices = omega (arith, r.1, r.2) in
       ⊎_elim inl (λ h. inr (bit_mod w most_devices i l h)) (n.all i e)
 
-  pub going_none : fresh ≡ 0 → Going m f k t a d'
+  pub going_none : fresh ≡ 0 → Going m f cleared a
   going_none z =
       record {
         begun = g.begun;
@@ -74,7 +79,7 @@ module _ (m : Scene) (f k t a : List ℕ) (d d' w v : ℕ) (g : Going m f k t a 
             (λ q. ⊎_elim
             (λ y. inr (subst (λ (u : ℕ). Has a u i) (sym y)
             (⊎_elim (λ h. h) (λ h. absurd (bit_zero i (subst (λ (x : ℕ). bit x i ≡ 1) z h)))
-            (old_or_fresh i (subst (λ (u : ℕ). Has t u i) y e)))))
+            (old_or_fresh i (subst (λ (u : ℕ). Has x.readers.of u i) y e)))))
             inl
             (c.all u q))
             inr
@@ -82,36 +87,35 @@ module _ (m : Scene) (f k t a : List ℕ) (d d' w v : ℕ) (g : Going m f k t a 
       }
 
   -- its entries were followed
-  module _ (k' t' : List ℕ) (d'' : ℕ) (e : Grew k k' t t' d' d'') where
-    pub suspected_of : (count table : List ℕ) (s : ℕ) → count ≡ m.config.values.count
-        → table ≡ m.config.values.entries → Sound m k' → StrangeIn count table f fresh v s → (i : ℕ) → bit s i ≡ 1
-        → Suspected m f k' i v
-    suspected_of count table s ic it sound x i b =
-        let y = x i b in
+  module _ (y : Found) (e : Grew cleared y) where
+    pub suspected_of : (s : ℕ) → Sound m y.known → StrangeIn m.config f fresh v s → (i : ℕ) → bit s i ≡ 1
+        → Suspected m f y.known i v
+    suspected_of s sound strange i b =
+        let z = strange i b in
         record {
           sound = sound;
-          paired = paired-wider e.wider (g.by v i (fresh-there i y.0));
-          entry = y.1;
-          there = subst (λ (l : List ℕ). In (get_or l v 0) y.1) ic y.2;
-          strange = subst (λ (l : List ℕ). Has f (get_or l (entry_place v y.1) 0) i → ⊥) it y.3;
+          paired = paired-wider e.wider (g.by v i (fresh-there i z.0));
+          entry = z.1;
+          there = z.2;
+          strange = z.3;
         }
 
-    begun-wider : {o : ℕ} → BegunAt m k o → BegunAt m k' o
+    begun-wider : {o : ℕ} → BegunAt m x.known o → BegunAt m y.known o
     begun-wider {o} b =
         record {
           started = λ h. e.wider.kept o _ (b.started h);
-          owned = λ i h x y. e.wider.kept o i (b.owned i h x y);
+          owned = λ i h p q. e.wider.kept o i (b.owned i h p q);
         }
 
-    pub going_some : (y : ℕ) → v < length a → y ≡ bit_or (get_or a v 0) fresh → Sound m k'
-        → EntriesIn m k' fresh v (count_of m v + 1)
-        → NoStrange m.config.values.entries f fresh v (count_of m v + 1) → Going m f k' t' (set a v y) d''
-    going_some y few is sound entries spared =
-        let out : (i : ℕ) → bit y i ≡ 1 → Has a v i ⊎ (bit fresh i ≡ 1) =
+    pub going_some : (z : ℕ) → v < length a → z ≡ bit_or (get_or a v 0) fresh → Sound m y.known
+        → EntriesIn m y.known fresh v (count_of m v + 1) → NoStrange m.config f fresh v (count_of m v + 1)
+        → Going m f y (set a v z)
+    going_some z few is sound entries spared =
+        let out : (i : ℕ) → bit z i ≡ 1 → Has a v i ⊎ (bit fresh i ≡ 1) =
         λ i h. or_out (get_or a v 0) fresh i (subst (λ (y : ℕ). bit y i ≡ 1) is h) in
-        let wider : Wider a (set a v y) = subst (λ (y : ℕ). Wider a (set a v y)) (sym is) (wider_set a v fresh few) in
-        let new : (i : ℕ) → bit fresh i ≡ 1 → Has (set a v y) v i =
-        λ i h. subst (λ (x : ℕ). bit x i ≡ 1) (sym (get_or-set_same a v y 0 few ∙ is))
+        let wider : Wider a (set a v z) = subst (λ (y : ℕ). Wider a (set a v y)) (sym is) (wider_set a v fresh few) in
+        let new : (i : ℕ) → bit fresh i ≡ 1 → Has (set a v z) v i =
+        λ i h. subst (λ (x : ℕ). bit x i ≡ 1) (sym (get_or-set_same a v z 0 few ∙ is))
         (or_right (get_or a v 0) fresh i h) in
         record {
           begun = record {
@@ -122,22 +126,22 @@ module _ (m : Scene) (f k t a : List ℕ) (d d' w v : ℕ) (g : Going m f k t a 
           by = e.by g.by;
           covers = e.covers g.covers;
           applied = λ u i j h p b.
-              set_word (λ u x. (j : ℕ) → In (count_of m u) j → bit x i ≡ 1 → EntryIn m k' (i + 1) u j) a v y few
+              set_word (λ u x. (j : ℕ) → In (count_of m u) j → bit x i ≡ 1 → EntryIn m y.known (i + 1) u j) a v z few
               (λ j p b. ⊎_elim (λ q. entry-wider e.wider (g.applied v i j h p q))
               (λ q. entries j p.low (omega (arith, p.high)) i h q) (out i b))
               (λ u j p b. entry-wider e.wider (g.applied u i j h p b))
               u j p b;
-          spared = set_word (λ u x. NoStrange m.config.values.entries f x u (count_of m u + 1)) a v y few
+          spared = set_word (λ u x. NoStrange m.config f x u (count_of m u + 1)) a v z few
               (λ j i l h b. ⊎_elim (g.spared v j i l h) (spared j i l h) (out i b)) g.spared;
           left = λ u i h b.
               ⊎_elim
               (λ q. ⊎_elim
-              (λ x. ⊎_elim
-              (λ z. inr (subst (λ (u : ℕ). Has (set a v y) u i) (sym z)
-              (⊎_elim (wider.kept v i) (new i) (old_or_fresh i (subst (λ (u : ℕ). Has t u i) z q)))))
-              (λ z. inl (e.kept u z))
-              (c.all u x))
-              (λ x. inr (wider.kept u i x))
+              (λ p. ⊎_elim
+              (λ k. inr (subst (λ (u : ℕ). Has (set a v z) u i) (sym k)
+              (⊎_elim (wider.kept v i) (new i) (old_or_fresh i (subst (λ (u : ℕ). Has x.readers.of u i) k q)))))
+              (λ k. inl (e.kept u k))
+              (c.all u p))
+              (λ p. inr (wider.kept u i p))
               (g.left u i h q))
               inl
               (e.marked u i b);
@@ -171,10 +175,10 @@ own-bit m k (suc n) o i f a e =
           (subst (λ (c : ℕ). hardcoded_to m.config c o ≡ true) q e),
     )
 
-pub ended_of : (m : Scene) (f k t a : List ℕ) (d : ℕ) → m.config.counts.devices ≤ most_devices → Going m f k t a d
-    → ((v : ℕ) → v ≤ m.config.counts.values → bit d v ≡ 1 → ⊥) → Ended m f k
-ended_of m f k t a d few g none =
-    let done : (o v n : ℕ) → n < most_devices → Has k o n → PairIn k o v → Has a v n =
+pub ended_of : (m : Scene) (f : List ℕ) (x : Found) (a : List ℕ) → m.config.counts.devices ≤ most_devices
+    → Going m f x a → ((v : ℕ) → v ≤ m.config.counts.values → bit x.readers.todo v ≡ 1 → ⊥) → Ended m f x.known
+ended_of m f x a few g none =
+    let done : (o v n : ℕ) → n < most_devices → Has x.known o n → PairIn x.known o v → Has a v n =
     λ o v n l r p.
     let q = (g.begun.sound o).values v p in
     ⊎_elim (λ h. absurd (none v q.value h)) (λ h. h) (g.left v n q.value (g.covers o v n l p r)) in
@@ -182,12 +186,12 @@ ended_of m f k t a d few g none =
       sound = g.begun.sound;
       closed = record {
         started = λ o e. (g.begun.given o (live-object m.config m.state o e)).started e;
-        owned = λ c o x e.
+        owned = λ c o y e.
             (let i = g.begun.owners c o e in
-            own-bit m k c o (record { low = i.low; high = omega (arith, i.high) })
-            (g.begun.given o (hardcoded-object m.config c o e)).owned x e);
+            own-bit m x.known c o (record { low = i.low; high = omega (arith, i.high) })
+            (g.begun.given o (hardcoded-object m.config c o e)).owned y e);
         entries = λ c o v j r p h.
-            subst (λ (c : ℕ). EntryIn m k c v j) (sym r.1)
+            subst (λ (c : ℕ). EntryIn m x.known c v j) (sym r.1)
             (g.applied v r.0 j r.2 h (done o v r.0 r.2 r.3 p));
       };
       fine = λ c o v j r p h.

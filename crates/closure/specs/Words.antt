@@ -2,14 +2,17 @@
 -- k: a word for each descriptor; digit c - 1: device c reads it; digit v + 16: its pair with value v is collected.
 -- t: a word for each value; digit c - 1: device c reads a pair with it.
 -- a: a word for each value; digit c - 1: what its entries give to device c is in k.
--- d: a word of values, those with something to do: digit v: t may have devices for v that a lacks.
-use Rattle.std.specs.Prelude.{ℕ, zero, ◌+◌, ◌-◌, ◌^◌, ◌≤◌, ◌<◌, ◌≡◌, ◌⊎◌, Bool, true, List, [], ◌∷◌, get_or, length}
+-- A word of values has those with something to do: digit v: t may have devices for v that a lacks.
+use Rattle.std.specs.Prelude.{ℕ, zero, ◌+◌, ◌-◌, ◌^◌, ◌≤◌, ◌<◌, ◌≡◌, ◌⊎◌, Bool, true, List, [], ◌∷◌, get_or}
 use Rattle.model.specs.Config.{most_devices, hardcoded_to, Entry}
 use Rattle.model.specs.State.{State, held}
 use Rattle.model.specs.Closure.{active, live, Collected, Reads}
+use Rattle.model.specs.declared.Config.{Config}
 use Rattle.scene.specs.Digits.{bit, Has, Wider}
 use Rattle.scene.specs.Rules.{opens, stores, starts, owned}
 use Rattle.scene.specs.Scene.{Scene, entry_of, count_of, In, Reading, Owners}
+use Rattle.closure.specs.declared.spread.Readers.{Readers}
+use Rattle.closure.specs.declared.spread.Found.{Found}
 
 -- device c reads descriptor o
 abbrev pub ReaderIn : List ℕ → ℕ → ℕ → Type 0
@@ -48,24 +51,21 @@ unfoldable pub slack : List ℕ → ℕ
 slack [] = zero
 slack (x ∷ xs) = (2 ^ 64 - x) + slack xs
 
--- the devices of the word r were given to the values of Q: t and d became t' and d'
-pub record Gave (Q : ℕ → Type 0) (r : ℕ) (t t' : List ℕ) (d d' : ℕ) : Type 0 where
-  pub long : length t' ≡ length t
-  pub wider : Wider t t'
-  pub all : (v : ℕ) → Q v → TouchedIn t' r v
-  pub only : (v n : ℕ) → Has t' v n → Has t v n ⊎ (Q v × (bit r n ≡ 1))
-  pub kept : (v : ℕ) → bit d v ≡ 1 → bit d' v ≡ 1
-  pub marked : (v n : ℕ) → Has t' v n → Has t v n ⊎ (bit d' v ≡ 1)
+-- the devices of the word r were given to the values of Q
+pub record Gave (Q : ℕ → Type 0) (r : ℕ) (x y : Readers) : Type 0 where
+  pub wider : Wider x.of y.of
+  pub all : (v : ℕ) → Q v → TouchedIn y.of r v
+  pub only : (v n : ℕ) → Has y.of v n → Has x.of v n ⊎ (Q v × (bit r n ≡ 1))
+  pub kept : (v : ℕ) → bit x.todo v ≡ 1 → bit y.todo v ≡ 1
+  pub marked : (v n : ℕ) → Has y.of v n → Has x.of v n ⊎ (bit y.todo v ≡ 1)
 
--- k, t and d became k', t' and d'
-pub record Grew (k k' t t' : List ℕ) (d d' : ℕ) : Type 0 where
-  pub known_long : length k' ≡ length k
-  pub long : length t' ≡ length t
-  pub wider : Wider k k'
-  pub by : By k t → By k' t'
-  pub covers : Covered k t → Covered k' t'
-  pub kept : (v : ℕ) → bit d v ≡ 1 → bit d' v ≡ 1
-  pub marked : (v n : ℕ) → Has t' v n → Has t v n ⊎ (bit d' v ≡ 1)
+-- what is found grew
+pub record Grew (x y : Found) : Type 0 where
+  pub wider : Wider x.known y.known
+  pub by : By x.known x.readers.of → By y.known y.readers.of
+  pub covers : Covered x.known x.readers.of → Covered y.known y.readers.of
+  pub kept : (v : ℕ) → bit x.readers.todo v ≡ 1 → bit y.readers.todo v ≡ 1
+  pub marked : (v n : ℕ) → Has y.readers.of v n → Has x.readers.of v n ⊎ (bit y.readers.todo v ≡ 1)
 
 -- the word of o has the digits of g too, if b says so
 pub record Added (b : Bool) (o g : ℕ) (k k' : List ℕ) : Type 0 where
@@ -79,17 +79,21 @@ pub record Followed (kind : List ℕ) (e : Entry) (r : ℕ) (k k' : List ℕ) : 
   pub opened : opens kind e ≡ true → (n : ℕ) → bit r n ≡ 1 → Has k' e.object n
   pub stored : stores kind true e ≡ true → PairIn k' e.object e.value
 
--- the word of the active device whose hardcoded descriptor o is
-pub record OwnWord (kind class owner : List ℕ) (b : State) (o x : ℕ) : Type 0 where
-  pub low : (n : ℕ) → bit x n ≡ 1 → n < most_devices
-  pub right : (n : ℕ) → bit x n ≡ 1 → owned kind class owner b (n + 1) o ≡ true
-  pub all : (n : ℕ) → owned kind class owner b (n + 1) o ≡ true → bit x n ≡ 1
+-- device c is active, and o is its hardcoded descriptor
+abbrev pub Owned : Config → State → ℕ → ℕ → Type 0
+Owned config b c o = owned config.objects.kind config.objects.class config.objects.owner b c o ≡ true
 
--- the word of the value, one up to w, that object o holds if it is an active descriptor
-pub record ValueWord (w : ℕ) (kind : List ℕ) (b : State) (o x : ℕ) : Type 0 where
+-- the word of the active device whose hardcoded descriptor o is
+pub record OwnWord (config : Config) (b : State) (o x : ℕ) : Type 0 where
+  pub low : (n : ℕ) → bit x n ≡ 1 → n < most_devices
+  pub right : (n : ℕ) → bit x n ≡ 1 → Owned config b (n + 1) o
+  pub all : (n : ℕ) → Owned config b (n + 1) o → bit x n ≡ 1
+
+-- the word of the value that object o holds if it is an active descriptor
+pub record ValueWord (config : Config) (b : State) (o x : ℕ) : Type 0 where
   pub right : (n : ℕ) → bit x n ≡ 1
-      → (starts kind b o ≡ true) × (n ≡ held b o + most_devices) × (held b o ≤ w)
-  pub all : starts kind b o ≡ true → bit x (held b o + most_devices) ≡ 1
+      → (starts config.objects.kind b o ≡ true) × (n ≡ held b o + most_devices) × (held b o ≤ config.counts.values)
+  pub all : starts config.objects.kind b o ≡ true → bit x (held b o + most_devices) ≡ 1
 
 module _ (m : Scene) where
   -- a digit of a device says that it reads every collected pair of the descriptor
@@ -143,11 +147,11 @@ module _ (m : Scene) where
     pub owners : Owners m
 
   -- before any step: what is read is still to be followed
-  pub record Seeded (k t : List ℕ) (d : ℕ) : Type 0 where
-    pub begun : Begun k
-    pub by : By k t
-    pub covers : Covered k t
-    pub marked : (v n : ℕ) → Has t v n → bit d v ≡ 1
+  pub record Seeded (x : Found) : Type 0 where
+    pub begun : Begun x.known
+    pub by : By x.known x.readers.of
+    pub covers : Covered x.known x.readers.of
+    pub marked : (v n : ℕ) → Has x.readers.of v n → bit x.readers.todo v ≡ 1
 
   -- no rule adds to k
   pub record Closed (k : List ℕ) : Type 0 where

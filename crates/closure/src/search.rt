@@ -1,80 +1,111 @@
-// The search for an entry that names an object which its device may not name: nested loops over devices, pairs and
-// entries, left at the first such entry.
-ghost use Rattle.std.specs.Prelude.{◌≤◌, ◌<◌};
-ghost use Rattle.model.specs.Config.{most_devices, most_objects, most_values};
-ghost use Rattle.scene.specs.Scene.{ValuesOk};
-ghost use Rattle.closure.specs.Search.{Listed, Finds};
+// The search for an entry that names an object which its device may not name.
+ghost use Rattle.std.specs.Prelude.{◌↔◌, ℕ, ◌≤◌, ◌<◌, get_or, IfNone, IfSome, IsTrue};
+ghost use Rattle.model.specs.Config.{most_devices, most_values};
+ghost use Rattle.scene.specs.Digits.{Has};
+ghost use Rattle.scene.specs.Scene.{In, ValuesOk};
+ghost use Rattle.closure.specs.Words.{PairIn};
+ghost use Rattle.closure.specs.Search.{MayName, PairFine, IsStrange, Finds};
 
-use crate::spread::FIRST_VALUE;
-use model::{Counts, ENTRY_BYTES, ENTRY_SLOTS, OBJECT_SLOTS, VALUE_SLOTS, wide};
-use scene::rules::ENTRY_ROOM;
+use crate::grow::{Strange, place_of};
+use crate::spread::{FIRST_VALUE, Found};
+use model::{Config, OBJECT_SLOTS};
 use scene::words;
 
-// An entry: its device, its descriptor, its value, and its number in the value, from 1; or nothing.
+// An entry: its device, the descriptor that the device reads, the value that this holds, and the entry's number in the
+// value, from 1.
 #[derive(Clone, Copy)]
-pub enum Finding {
-    Found(usize, usize, usize, usize),
-    Nothing,
+pub struct Finding {
+    pub device: usize,
+    pub descriptor: usize,
+    pub value: usize,
+    pub entry: usize,
 }
 
-// How many entries the pair of descriptor o with value v has for device i + 1: none if it does not read the pair.
-fn listed(
-    count: &[u8; VALUE_SLOTS],
-    known: &[u64; OBJECT_SLOTS],
-    i: usize,
-    o: usize,
-    v: usize,
-) -> usize
-    requires i_lt_most_devices { i < most_devices }
-    requires o_le_most_objects { o ≤ most_objects }
-    requires v_le_most_values { v ≤ most_values }
-    ensures { Listed count.now known.now i o v result }
+// Device i + 1 may name the object of entry j of value v; `fine` has the devices that may.
+fn may_name(config: &Config, fine: &[u64; OBJECT_SLOTS], i: usize, v: usize, j: usize) -> bool
+    requires values_ok { ValuesOk config.now }
+    requires device { i < most_devices }
+    requires value { v ≤ config.now.counts.values }
+    requires entry { In (get_or config.now.values.count v 0) j }
+    ensures { IsTrue result ↔ MayName config.now fine.now i v j }
 {
-    let x = known[o];
-    if !words::has(x, i) {
-        return 0;
-    }
-    if !words::has(x, v + FIRST_VALUE) {
-        return 0;
-    }
-    wide(count[v])
+    words::has(fine[config.values.entries[place_of(v, j)] as usize], i)
 }
 
-// An entry of value v, read by a device of the word d, that names an object which the device may not name; `fine` has
-// the devices that may.
-pub(crate) fn find<'a>(
-    counts: Counts,
-    count: &'a [u8; VALUE_SLOTS],
-    entries: &'a [u8; ENTRY_SLOTS],
-    known: &[u64; OBJECT_SLOTS],
-    fine: &[u64; OBJECT_SLOTS],
-    d: u64,
-    v: usize,
-) -> Finding
-    requires values_ok { ValuesOk counts count.now entries.now }
-    requires v_le_values { v ≤ counts.values }
-    ensures { Finds count.now entries.now known.now fine.now counts d v result }
+// The first entry of value v whose object device i + 1 may not name; `fine` has the devices that may.
+fn strange_entry(config: &Config, fine: &[u64; OBJECT_SLOTS], i: usize, v: usize) -> Option<usize>
+    requires values_ok { ValuesOk config.now }
+    requires device { i < most_devices }
+    requires value { v ≤ config.now.counts.values }
+    ensures none { IfNone result ((j : ℕ) → In (get_or config.now.values.count v 0) j
+        → MayName config.now fine.now i v j) }
+    ensures some { IfSome result (λ j. In (get_or config.now.values.count v 0) j
+        × (MayName config.now fine.now i v j → ⊥)) }
 {
-    let devices = counts.devices as usize;
-    let last = counts.objects as usize;
-    let mut i = words::next(d, 0);
-    'search: loop {
-        if devices <= i {
-            break 'search Finding::Nothing;
-        }
-        let mut o = 1;
-        while o <= last {
-            let most = listed(count, known, i, o, v);
-            let mut j = 1;
-            while j <= most {
-                let n = entries[ENTRY_BYTES * (ENTRY_ROOM * v + j)] as usize;
-                if !words::has(fine[n], i) {
-                    break 'search Finding::Found(i + 1, o, v, j);
+    (1..config.values.count[v] as usize + 1).find(|j| !may_name(config, fine, i, v, *j))
+}
+
+impl Found {
+    // The first descriptor that device i + 1 reads and whose pair with value v is collected.
+    fn pair_of(&self, config: &Config, i: usize, v: usize) -> Option<usize>
+        requires values_ok { ValuesOk config.now }
+        requires device { i < most_devices }
+        requires value { v ≤ most_values }
+        ensures none { IfNone result ((o : ℕ) → In config.now.counts.objects o → Has self.now.known o i
+            → PairIn self.now.known o v → ⊥) }
+        ensures some { IfSome result (λ o. Has self.now.known o i × PairIn self.now.known o v) }
+    {
+        (1..config.counts.objects as usize + 1).find(|o| {
+            let x = self.known[*o];
+            words::has(x, i) && words::has(x, v + FIRST_VALUE)
+        })
+    }
+
+    // An entry of value v, in a pair that device i + 1 reads, that names an object which the device may not name.
+    fn finding(
+        &self,
+        config: &Config,
+        fine: &[u64; OBJECT_SLOTS],
+        i: usize,
+        v: usize,
+    ) -> Option<Finding>
+        requires values_ok { ValuesOk config.now }
+        requires device { i < config.now.counts.devices }
+        requires value { v ≤ config.now.counts.values }
+        ensures none { IfNone result ((o : ℕ) → In config.now.counts.objects o
+            → PairFine config.now fine.now self.now.known i o v) }
+        ensures some { IfSome result (λ e. IsStrange config.now fine.now self.now.known e.device e.descriptor e.value
+            e.entry) }
+    {
+        let entry = strange_entry(config, fine, i, v)?;
+        let descriptor = self.pair_of(config, i, v)?;
+        Some(Finding {
+            device: i + 1,
+            descriptor,
+            value: v,
+            entry,
+        })
+    }
+
+    // An entry of the value, in a pair that one of the devices reads, that names an object which the device may not
+    // name.
+    pub fn find(
+        &self,
+        config: &Config,
+        fine: &[u64; OBJECT_SLOTS],
+        strange: Strange,
+    ) -> Option<Finding>
+        requires values_ok { ValuesOk config.now }
+        requires value { strange.value ≤ config.now.counts.values }
+        ensures { Finds config.now fine.now self.now.known strange.devices strange.value result }
+    {
+        for i in 0..config.counts.devices as usize {
+            if words::has(strange.devices, i) {
+                if let Some(found) = self.finding(config, fine, i, strange.value) {
+                    return Some(found);
                 }
-                j += 1;
             }
-            o += 1;
         }
-        i = words::next(d, i + 1);
+        None
     }
 }

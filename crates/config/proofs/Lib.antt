@@ -1,2 +1,4 @@
 pub mod Readers
-pub mod Quick
+pub mod Ranged
+pub mod Loading
+pub mod Asked

@@ -1,13 +1,16 @@
 -- Laws of the file's definitions by cases, in the form in which the readers' proofs cite them.
 -- Assumes nothing.
 use Prim.Native.Nat.{ℕ, suc, ◌+◌, ◌-◌, ◌<◌, ◌≤◌}
-use mathlib.Core.Path.{◌≡◌, refl, sym, ◌∙◌, subst}
+use mathlib.Core.Path.{◌≡◌, refl, sym, subst}
+use lib.ListN.{set}
 use mathlib.Core.List.{List, [], ◌∷◌}
-use mathlib.Core.Bool.{Bool, true, false, cond, false≢true, ◌&&◌}
-use lib.ListN.{length}
-use lib.Dec.{leb, eqb}
-use borrow.Author.Tests.{le-leb, lt-leb, leb-true, eq-eqb, ne_eqb}
+use mathlib.Core.Bool.{Bool, true, false, cond, ◌&&◌}
+use lib.Dec.{leb}
+use borrow.Author.Tests.{le-leb, lt-leb, leb-true}
 use native.Mathlib.Omega.{arith}
+use Rattle.std.specs.Prelude.{Result, Ok, Err}
+use Rattle.std.specs.Result.{IfOk}
+use Rattle.model.specs.Answers.{reading_of, head_of, number_of}
 use Rattle.model.specs.Number.{number_at}
 use Rattle.model.specs.Config.{
   most_drivers,
@@ -23,14 +26,12 @@ use Rattle.model.specs.ConfigFile.{
   ranged,
   field_at,
   field_to,
-  field_question,
-  reading_question,
-  head_question,
   on_field,
   Progress,
   read,
   stop,
   on_reading,
+  set_count,
   turns,
   done,
   field,
@@ -38,69 +39,63 @@ use Rattle.model.specs.ConfigFile.{
   read_row,
   counts_to,
   counts_at,
-  objects_at,
-  devices_at,
-  values_at,
-  paired,
-  restrained,
-  accepted,
-  refused,
-  ask,
-  judged,
-  after_counts,
-  after_group,
-  groups_from,
-  groups_to,
-  load_to,
-  load,
 }
-use Rattle.model.specs.declared.Num.{Num}
-use Rattle.model.specs.declared.Num.TheVariants.{Got, Bad}
+use Rattle.model.specs.Num.{Num, Got, Bad}
+use Rattle.model.specs.Field.{Field, Value, No}
+use Rattle.model.specs.Head.{Head, Counted, Stopped}
 use Rattle.model.specs.declared.Fault.{Fault}
-use Rattle.model.specs.declared.Field.{Field}
-use Rattle.model.specs.declared.Field.TheVariants.{Value, No}
-use Rattle.model.specs.declared.Reading.{Reading}
-use Rattle.model.specs.declared.Reading.TheVariants.{At, Refused}
-use Rattle.model.specs.declared.Head.{Head}
-use Rattle.model.specs.declared.Head.TheVariants.{Counted, Stopped}
+use Rattle.model.specs.declared.Question.{Question}
 use Rattle.model.specs.declared.Counts.{Counts}
-use Rattle.model.specs.declared.Config.{Config}
-use Rattle.model.specs.declared.Loaded.{Loaded}
+use Rattle.model.specs.declared.Values.{Values}
+use Rattle.model.proofs.Lists.{and_r}
+use Rattle.sound.specs.Columns.{Within}
 use Rattle.config.specs.Readings.{progress, serial_at}
-use Rattle.sound.specs.Columns.{objects_of, devices_of, values_of, config_of, Within}
-use Rattle.config.specs.Rest.{first_no, rest_no}
 
 and-false : (b : Bool) → b && false ≡ false
 and-false true = refl
 and-false false = refl
 
 -- one field, from what the number reader answered
-module _ (s : List ℕ) (at low high : ℕ) (n : Num) (h : n ≡ number_at s at) where
-  pub field_bad : (f : Fault) (q : ℕ) → n ≡ Bad f → q ≡ num_question n → No q ≡ field_at s at low high
+module _ (s : List ℕ) (at low high : ℕ) where
+  pub field_bad : (f : Fault) → Bad f ≡ number_at s at → No (num_question (Bad f)) ≡ field_at s at low high
   unfolding field_to ranged
-  field_bad f q e p = rw (p, ← h, e)
+  field_bad f h = rw (← h)
 
-  pub field-low : (v next : ℕ) → n ≡ Got v next → v < low → No 3 ≡ field_at s at low high
-  unfolding field_to ranged
-  field-low v next e p = rw (← h, e, lt-leb low v p)
+  module _ (v next : ℕ) (h : Got v next ≡ number_at s at) where
+    pub field_low : v < low → No 3 ≡ field_at s at low high
+    unfolding field_to ranged
+    field_low p = rw (← h, lt-leb low v p)
 
-  pub field-high : (v next : ℕ) → n ≡ Got v next → high < v → No 3 ≡ field_at s at low high
-  unfolding field_to ranged
-  field-high v next e p = rw (← h, e, lt-leb v high p, and-false)
+    pub field_high : high < v → No 3 ≡ field_at s at low high
+    unfolding field_to ranged
+    field_high p = rw (← h, lt-leb v high p, and-false)
 
-  pub field-value : (v next : ℕ) → n ≡ Got v next → low ≤ v → v ≤ high → Value v next ≡ field_at s at low high
-  unfolding field_to ranged
-  field-value v next e p q = rw (← h, e, le-leb low v p, le-leb v high q)
+    pub field_value : low ≤ v → v ≤ high → Value v next ≡ field_at s at low high
+    unfolding field_to ranged
+    field_value p q = rw (← h, le-leb low v p, le-leb v high q)
 
--- what follows a field: it is refused, or its number goes to what follows
-module _ {R : Type 0} (halt : ℕ → R) (x : Field) (k : ℕ → ℕ → R) {f : Field} (h : f ≡ x) where
-  pub on_stop : {q : ℕ} {r : R} → f ≡ No q → r ≡ halt (field_question f) → r ≡ on_field halt x k
-  unfolding on_field
-  on_stop e p = rw (p, ← h, e)
+-- what follows a field, and how far a table is read
+pub on_value : {R : Type 0} (halt : ℕ → R) (v next : ℕ) (k : ℕ → ℕ → R) → on_field halt (Value v next) k ≡ k v next
+unfolding on_field
+on_value halt v next k = refl
 
-  pub on_go : {v next : ℕ} {r : R} → f ≡ Value v next → r ≡ k v next → r ≡ on_field halt x k
-  unfolding on_field
-  on_go e p = rw (p, ← h, e)
+pub on_no : {R : Type 0} (halt : ℕ → R) (q : ℕ) (k : ℕ → ℕ → R) → on_field halt (No q) k ≡ halt q
+unfolding on_field
+on_no halt q k = refl
+
+pub read_is : {T : Type 0} (t : T) (next : ℕ) → read t next ≡ progress (Ok next) t
+unfolding read
+read_is t next = refl
+
+pub stop_is : {T : Type 0} (t : T) (q : Question) → stop t (number_of q) ≡ progress (Err q) t
+unfolding stop
+stop_is t q = refl
+
+pub set_count_is : (t : Values) (v n : ℕ) → set_count t v n ≡ record { count = set t.count v n; entries = t.entries }
+unfolding set_count
+set_count_is t v n = refl
+
+pub ruleset row_laws = (on_value, on_no, read_is, stop_is)
 
 -- a serial is there in a file of an edition that has it, and then is one field
 pub serial_none : (s : List ℕ) (edition at : ℕ) → edition < serial_edition → Value 0 at ≡ serial_at s edition at
@@ -112,11 +107,11 @@ pub serial_some : (s : List ℕ) (edition at : ℕ) → serial_edition ≤ editi
 unfolding serial_at
 serial_some s edition at h = rw (le-leb serial_edition edition h)
 
-pub serial-row : {R : Type 0} (s : List ℕ) (edition at : ℕ) (halt : ℕ → R) (k : List ℕ → ℕ → R)
+pub serial_row : {R : Type 0} (s : List ℕ) (edition at : ℕ) (halt : ℕ → R) (k : List ℕ → ℕ → R)
     → on_field halt (serial_at s edition at) (λ n next. k (n ∷ []) next)
     ≡ read_row s at (cond (leb serial_edition edition) (field 0 most_serial λ serial. done) (absent done)) halt k
 unfolding serial_at on_field
-serial-row {R} s edition at halt k = go (leb serial_edition edition)
+serial_row {R} s edition at halt k = go (leb serial_edition edition)
   where
     go : (t : Bool)
         → on_field halt (cond t (field_at s at 0 most_serial) (Value 0 at)) (λ n next. k (n ∷ []) next)
@@ -125,26 +120,21 @@ serial-row {R} s edition at halt k = go (leb serial_edition edition)
     go false = refl
 
 -- the number of a field that is not refused lies in its range
-and_right : (a b : Bool) → a && b ≡ true → b ≡ true
-and_right true b e = e
-and_right false b e = absurd (false≢true e)
-
 in_range : (low high w p : ℕ) (t : Bool) {v next : ℕ} → (leb low w && leb w high) ≡ t
-    → cond t (Value w p) (No 3) ≡ Value v next → v ≤ high
+    → Value v next ≡ cond t (Value w p) (No 3) → v ≤ high
 in_range low high w p true {v} {next} h e =
-    let z : w ≡ v = cc in
-    omega (arith, leb-true w high (and_right (leb low w) (leb w high) h))
+    let z : v ≡ w = cc in
+    omega (arith, leb-true w high (and_r (leb low w) (leb w high) h))
 in_range low high w p false {v} {next} h e = let z : ◌≡◌ {A = ℕ} 0 1 = cc in omega arith
 
-ranged-most : (low high : ℕ) (n : Num) {v next : ℕ} → ranged low high n ≡ Value v next → v ≤ high
+ranged-most : (low high : ℕ) (n : Num) {v next : ℕ} → Value v next ≡ ranged low high n → v ≤ high
 unfolding ranged
 ranged-most low high (Got w p) {v} {next} e = in_range low high w p (leb low w && leb w high) refl e
 ranged-most low high (Bad f) {v} {next} e = let z : ◌≡◌ {A = ℕ} 0 1 = cc in omega arith
 
-pub field-most : (s : List ℕ) (at low high : ℕ) {f : Field} {v next : ℕ} → f ≡ field_at s at low high
-    → f ≡ Value v next → v ≤ high
+pub field_most : (s : List ℕ) (at low high : ℕ) {v next : ℕ} → Value v next ≡ field_at s at low high → v ≤ high
 unfolding field_to
-field-most s at low high h e = ranged-most low high (number_at s at) (sym h ∙ e)
+field_most s at low high e = ranged-most low high (number_at s at) e
 
 -- counts that were read are within the columns
 abbrev WithinHead : Head → Type 0
@@ -156,8 +146,8 @@ field-within : (s : List ℕ) (at low high : ℕ) (k : ℕ → ℕ → Head) →
 unfolding on_field
 field-within s at low high k h = go (field_at s at low high) refl
   where
-    go : (f : Field) → field_at s at low high ≡ f → WithinHead (on_field Stopped f k)
-    go (Value v next) e = h v next (field-most s at low high refl e)
+    go : (f : Field) → f ≡ field_at s at low high → WithinHead (on_field Stopped f k)
+    go (Value v next) e = h v next (field_most s at low high e)
     go (No q) e = tt
 
 head_within : (s : List ℕ) → WithinHead (counts_at s)
@@ -170,113 +160,52 @@ head_within s =
     field-within s e 0 most_values _ λ k next hk.
     record { drivers = hd; devices = hv; objects = hn; values = hk }
 
-pub counts-within : (s : List ℕ) {h : Head} {n : Counts} {next : ℕ} → h ≡ counts_at s → h ≡ Counted n next → Within n
-counts-within s e z = subst WithinHead (sym e ∙ z) (head_within s)
+pub counts_within : (s : List ℕ) (r : Result (Counts × ℕ) Question) → head_of r ≡ counts_at s
+    → IfOk r (λ p. Within p.0)
+counts_within s (Ok p) e = subst WithinHead (sym e) (head_within s)
+counts_within s (Err q) e = tt
 
--- one turn of a loop over the numbers 1 to n, at the number i: the body goes on, refuses, or is at the end
-module _ {T : Type 0} (f : ℕ → ℕ → T → Progress T) (n i at : ℕ) (t : T) where
-  module _ {r : Reading} {u : T} (h : i < n) (e : progress r u ≡ f (i + 1) at t) where
-    turns_more : turns f (n - i) i at t ≡ on_reading (stop u) r (λ next. turns f (n - (i + 1)) (i + 1) next u)
-    unfolding turns
-    turns_more =
-        let q : n - i ≡ suc (n - (i + 1)) = omega arith in
-        rw (q, ← e)
+-- a loop over the numbers 1 to n, at number o: the turns from there on
+unfoldable pub ahead : {T : Type 0} → (ℕ → ℕ → T → Progress T) → ℕ → ℕ → ℕ → T → Progress T
+ahead f n o at t = turns f (n + 1 - o) (o - 1) at t
 
-    pub turns_go : {next : ℕ} → r ≡ At next → turns f (n - i) i at t ≡ turns f (n - (i + 1)) (i + 1) next u
+module _ {T : Type 0} (f : ℕ → ℕ → T → Progress T) (n at : ℕ) (t : T) where
+  pub ahead_start : ahead f n 1 at t ≡ turns f n 0 at t
+  unfolding ahead
+  ahead_start =
+      let q : n + 1 - 1 ≡ n = omega arith in
+      rw q
+
+  pub ahead_end : (o : ℕ) → n + 1 ≤ o → ahead f n o at t ≡ progress (Ok at) t
+  unfolding ahead turns read
+  ahead_end o last =
+      let q : n + 1 - o ≡ 0 = omega arith in
+      rw q
+
+  module _ (o : ℕ) (first : 1 ≤ o) (last : o < n + 1) {u : T} where
+    ahead_more : (r : Result ℕ Question) → progress r u ≡ f o at t
+        → ahead f n o at t ≡ on_reading (stop u) (reading_of r) (λ next. ahead f n (o + 1) next u)
+    unfolding ahead turns
+    ahead_more r e =
+        let q : n + 1 - o ≡ suc (n + 1 - (o + 1)) = omega arith in
+        let z : o - 1 + 1 ≡ o = omega arith in
+        let y : o + 1 - 1 ≡ o = omega arith in
+        rw (q, z, y, ← e)
+
+    pub ahead_go : (next : ℕ) → progress (Ok next) u ≡ f o at t → ahead f n o at t ≡ ahead f n (o + 1) next u
     unfolding on_reading
-    turns_go z = turns_more ∙ rw z
+    ahead_go next e = ahead_more (Ok next) e
 
-    pub turns-stop : {q : ℕ} → r ≡ Refused q → turns f (n - i) i at t ≡ progress r u
+    pub ahead_stop : (q : Question) → progress (Err q) u ≡ f o at t → ahead f n o at t ≡ progress (Err q) u
     unfolding on_reading stop
-    turns-stop z = turns_more ∙ rw z
+    ahead_stop q e = ahead_more (Err q) e
 
-  pub turns-start : turns f (n - 0) 0 at t ≡ turns f n 0 at t
-  turns-start =
-      let q : n - 0 ≡ n = omega arith in
-      rw q
+pub ruleset turn_laws = (ahead_start, ahead_go, ahead_end)
 
-  pub turns_end : n ≤ i → turns f (n - i) i at t ≡ progress (At at) t
-  unfolding turns read
-  turns_end h =
-      let q : n - i ≡ 0 = omega arith in
-      rw q
+pub ruleset field_laws = (field_bad, field_low, field_high, field_value)
 
--- a whole group: it is refused, or its table and the next place go to what follows
-module _ {T : Type 0} (x : Progress T) (k : T → ℕ → Loaded) {r : Reading} {u : T} (e : progress r u ≡ x) where
-  pub group_stop : {q : ℕ} {l : Loaded} → r ≡ Refused q → l ≡ refused (reading_question r) → l ≡ after_group x k
-  unfolding after_group on_reading
-  group_stop z p = rw (p, ← e, z)
+pub ruleset value_laws = (row_laws, turn_laws, field_most, set_count_is)
 
-  pub group_go : {next : ℕ} {l : Loaded} → r ≡ At next → l ≡ k u next → l ≡ after_group x k
-  unfolding after_group on_reading
-  group_go z p = rw (p, ← e, z)
+pub ruleset serial_laws = (serial_none, serial_some, field_most)
 
--- the counts: they are refused, or go to what follows
-module _ (s : List ℕ) {h : Head} (e : h ≡ counts_at s) where
-  pub load-stop : {q : ℕ} {l : Loaded} → h ≡ Stopped q → l ≡ refused (head_question h) → l ≡ load s
-  unfolding load_to after_counts
-  load-stop z p = rw (p, ← e, z)
-
-  pub load_go : {n : Counts} {next : ℕ} {l : Loaded} → h ≡ Counted n next → l ≡ groups_from s n next → l ≡ load s
-  unfolding load_to after_counts
-  load_go z p = rw (p, ← e, z)
-
--- the counts and the three groups, up to the first that is refused: all that was read goes to what follows. Said once
--- over names, since in a reader's proof each of them stands for a long term
-module _ (s : List ℕ) {head : Head} (e : head ≡ counts_at s) {n : Counts} {at : ℕ} (c : head ≡ Counted n at) where
-  module _ {p : Reading} {kind class owner : List ℕ}
-      (x : progress p (objects_of kind class owner) ≡ objects_at s n at) where
-    pub objects-stop : {i : ℕ} {l : Loaded} → p ≡ Refused i → l ≡ refused (reading_question p) → l ≡ load s
-    unfolding groups_to
-    objects-stop z w = load_go s e c (group_stop _ _ x z w)
-
-    module _ {a : ℕ} (o : p ≡ At a) {q : Reading} {hardcoded serial : List ℕ}
-        (y : progress q (devices_of hardcoded serial) ≡ devices_at s n a) where
-      pub devices-stop : {i : ℕ} {l : Loaded} → q ≡ Refused i → l ≡ refused (reading_question q) → l ≡ load s
-      unfolding groups_to
-      devices-stop z w = load_go s e c (group_go _ _ x o (group_stop _ _ y z w))
-
-      module _ {b : ℕ} (d : q ≡ At b) {r : Reading} {count entries : List ℕ}
-          (z : progress r (values_of count entries) ≡ values_at s n kind b) where
-        pub values-stop : {i : ℕ} {l : Loaded} → r ≡ Refused i → l ≡ refused (reading_question r) → l ≡ load s
-        unfolding groups_to
-        values-stop v w = load_go s e c (group_go _ _ x o (group_go _ _ y d (group_stop _ _ z v w)))
-
-        pub all_go : {end : ℕ} {l : Loaded} → r ≡ At end
-            → l ≡ judged s end (config_of n kind class owner hardcoded serial count entries) → l ≡ load s
-        unfolding groups_to
-        all_go v w = load_go s e c (group_go _ _ x o (group_go _ _ y d (group_go _ _ z v w)))
-
--- questions 4, 5 and 6, by the first that is answered with no
-module _ (s : List ℕ) (at : ℕ) (config : Config) where
-  pub left_over : {r : Loaded} → (at ≡ length s → ⊥) → r ≡ refused 4 → r ≡ judged s at config
-  unfolding judged ask
-  left_over h p = rw (p, ne_eqb at (length s) h)
-
-  pub all_read : {a b : Bool} {q : ℕ} → at ≡ length s → a ≡ paired config → b ≡ restrained config
-      → q ≡ first_no a 5 b 6 → q ≡ rest_no s at config
-  unfolding rest_no
-  all_read h e g f = rw (eq-eqb at (length s) h, ← e, ← g, f)
-
-  module _ {q : ℕ} (h : q ≡ rest_no s at config) where
-    pub not_sound : {r : Loaded} → (q ≡ 0 → ⊥) → r ≡ refused q → r ≡ judged s at config
-    unfolding judged ask rest_no first_no
-    not_sound n p = rw p (go (eqb at (length s)) (paired config) (restrained config) h)
-      where
-        go : (a b c : Bool) → q ≡ cond a (first_no b 5 c 6) 4
-            → refused q ≡ ask 4 a (ask 5 b (ask 6 c (accepted config)))
-        go false b c z = rw z
-        go true false c z = rw z
-        go true true false z = rw z
-        go true true true z = absurd (n z)
-
-    pub accepts : {r : Loaded} → q ≡ 0 → r ≡ accepted config → r ≡ judged s at config
-    unfolding judged ask rest_no first_no
-    accepts n p = rw p (go (eqb at (length s)) (paired config) (restrained config) h)
-      where
-        go : (a b c : Bool) → q ≡ cond a (first_no b 5 c 6) 4
-            → accepted config ≡ ask 4 a (ask 5 b (ask 6 c (accepted config)))
-        go true true true z = refl
-        go true true false z = absurd (omega arith)
-        go true false c z = absurd (omega arith)
-        go false b c z = absurd (omega arith)
+pub ruleset entry_laws = (row_laws, field_most)

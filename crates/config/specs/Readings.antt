@@ -1,21 +1,14 @@
 -- What the readers of a group answer.
-use Rattle.std.specs.Prelude.{ℕ, List, cond, leb}
+use Rattle.std.specs.Prelude.{ℕ, List, Result, cond, leb}
+use Rattle.model.specs.Answers.{reading_of}
 use Rattle.model.specs.Config.{serial_edition, most_serial}
 use Rattle.model.specs.ConfigFile.{field_at, Progress}
-use Rattle.model.specs.declared.Field.{Field}
-use Rattle.model.specs.declared.Field.TheVariants.{Value, No}
-use Rattle.model.specs.declared.Reading.{Reading}
-use Rattle.config.specs.declared.devices.Wide.{Wide}
-use Rattle.config.specs.declared.devices.Wide.TheVariants.{Large, Not}
+use Rattle.model.specs.Field.{Field, Value}
+use Rattle.model.specs.declared.Question.{Question}
 
--- what a reader answers, and what the columns then hold
-abbrev pub progress : {T : Type 0} → Reading → T → Progress T
-progress r t = record { reading = r; table = t }
-
--- a wide number as a field
-abbrev pub as_field : Wide → Field
-as_field (Large v next) = Value v next
-as_field (Not q) = No q
+-- what a reader answers, and what the table then holds
+abbrev pub progress : {T : Type 0} → Result ℕ Question → T → Progress T
+progress r t = record { reading = reading_of r; table = t }
 
 -- request N7: a serial in a file of an edition; before there were serials it is 0, and takes no byte
 unfoldable pub serial_at : List ℕ → ℕ → ℕ → Field

@@ -1,112 +1,61 @@
 // The devices of the file: for each the value number of its hardcoded descriptor and, from an edition on, its serial
-// (request N7). A serial has a reader of its own, since no other number of the file is above 255.
+// (request N7).
 ghost use Rattle.std.specs.Prelude.{◌≡◌, ◌≤◌};
-ghost use Rattle.model.specs.declared.Reading.TheVariants.{Refused};
-ghost use Rattle.model.specs.Config.{most_devices, most_serial};
-ghost use Rattle.model.specs.ConfigFile.{field_at, field_question, device, turns};
-ghost use Rattle.sound.specs.Columns.{devices_of, Within};
-ghost use Rattle.config.specs.Readings.{progress, as_field, serial_at};
+ghost use Rattle.model.specs.Answers.{field_of};
+ghost use Rattle.model.specs.Config.{most_devices};
+ghost use Rattle.model.specs.ConfigFile.{device, turns};
+ghost use Rattle.sound.specs.Columns.{Within};
+ghost use Rattle.config.specs.Readings.{progress, serial_at};
 
-use crate::fields::{num_question, quick_field};
-use crate::groups::refused;
-use model::{Counts, DEVICE_SLOTS, Field, MOST_SERIAL, Num, Reading, SERIAL_EDITION};
+use crate::fields::{read_field, read_number};
+use model::{Counts, Devices, MOST_NUMBER, Question, SERIAL_EDITION};
 
-// A number that is wider than a byte, with the place after it; or the question, 1 to 3, that it answers with no.
-#[derive(Clone, Copy)]
-enum Wide {
-    Large(u32, usize),
-    Not(u8),
-}
-
-fn wide_question(w: Wide) -> u8
-    ensures { result ≡ field_question (as_field w) }
-{
-    match w {
-        Wide::Not(q) => q,
-        Wide::Large(_, _) => 0,
-    }
-}
-
-fn refused_wide(w: Wide) -> Reading
-    ensures { result ≡ Refused (field_question (as_field w)) }
-{
-    Reading::Refused(wide_question(w))
-}
-
-// The serial at `at`: question 1, then 2, then 3.
-fn wide_field(s: &[u8], at: usize) -> Wide
-    ensures { as_field result ≡ field_at s.now at 0 most_serial }
-{
-    let n = varint::decode(s, at);
-    let Num::Got(v, next) = n else {
-        return Wide::Not(num_question(n));
-    };
-    if (MOST_SERIAL as usize) < v {
-        return Wide::Not(3);
-    }
-    Wide::Large(v as u32, next)
-}
-
-// The same in a file of an edition that has serials; in an older one the serial is 0, and takes no byte.
-fn read_serial(s: &[u8], edition: u32, at: usize) -> Wide
-    ensures { as_field result ≡ serial_at s.now edition at }
+// The serial in a file of an edition that has serials; in an older one it is 0, and takes no byte.
+#[tactic(auto, using(crate::proofs::Readers::serial_laws))]
+fn read_serial(s: &[u8], edition: u32, at: usize) -> Result<(u32, usize), Question>
+    ensures { field_of result ≡ serial_at s.now edition at }
 {
     if edition < SERIAL_EDITION {
-        return Wide::Large(0, at);
+        return Ok((0, at));
     }
-    wide_field(s, at)
+    let (serial, next) = read_number(s, at, 0, MOST_NUMBER)?;
+    Ok((serial as u32, next))
 }
 
-// Device v: the value number of its hardcoded descriptor, and its serial.
+// Device c: the value number of its hardcoded descriptor, and its serial.
+#[tactic(auto, using(crate::proofs::Readers::row_laws), unfolding(model::specs::ConfigFile::device_to))]
 fn read_device(
     s: &[u8],
     counts: Counts,
-    v: u8,
+    c: u8,
     at: usize,
-    hardcoded: &mut [u8; DEVICE_SLOTS],
-    serial: &mut [u32; DEVICE_SLOTS],
-) -> Reading
-    requires { v ≤ most_devices }
-    ensures { progress result (devices_of hardcoded.new serial.new)
-        ≡ device s.now counts v at (devices_of hardcoded.old serial.old) }
+    devices: &mut Devices,
+) -> Result<usize, Question>
+    requires { c ≤ most_devices }
+    ensures { progress result devices.new ≡ device s.now counts c at devices.old }
 {
-    let f = quick_field(s, at, 0, counts.values);
-    let Field::Value(w, a) = f else {
-        return refused(f);
-    };
-    let g = read_serial(s, counts.edition, a);
-    let Wide::Large(n, next) = g else {
-        return refused_wide(g);
-    };
-    let i = v as usize;
-    hardcoded[i] = w;
-    serial[i] = n;
-    Reading::At(next)
+    let (hardcoded, at) = read_field(s, at, 0, counts.values)?;
+    let (serial, at) = read_serial(s, counts.edition, at)?;
+    let i = c as usize;
+    devices.hardcoded[i] = hardcoded;
+    devices.serial[i] = serial;
+    Ok(at)
 }
 
 // Devices 1 to V.
+#[tactic(auto, using(crate::proofs::Readers::turn_laws))]
 pub(crate) fn read_devices(
     s: &[u8],
     counts: Counts,
-    at: usize,
-    hardcoded: &mut [u8; DEVICE_SLOTS],
-    serial: &mut [u32; DEVICE_SLOTS],
-) -> Reading
+    from: usize,
+    devices: &mut Devices,
+) -> Result<usize, Question>
     requires { Within counts }
-    ensures { progress result (devices_of hardcoded.new serial.new)
-        ≡ turns (device s.now counts) counts.devices 0 at
-        (devices_of hardcoded.old serial.old) }
+    ensures { progress result devices.new ≡ turns (device s.now counts) counts.devices 0 from devices.old }
 {
-    let n = counts.devices;
-    let mut i: u8 = 0;
-    let mut p = at;
-    while i < n {
-        i += 1;
-        let r = read_device(s, counts, i, p, hardcoded, serial);
-        let Reading::At(next) = r else {
-            return r;
-        };
-        p = next;
+    let mut at = from;
+    for c in 1..counts.devices + 1 {
+        at = read_device(s, counts, c, at, devices)?;
     }
-    Reading::At(p)
+    Ok(at)
 }

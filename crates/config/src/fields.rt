@@ -1,97 +1,43 @@
-// One number of the file in its field's range, and the question of what is refused.
+// One number of the file in its field's range: question 1, then 2, then 3.
 ghost use Rattle.std.specs.Prelude.{◌≡◌, ◌-◌, length};
-ghost use Rattle.model.specs.ConfigFile.{num_question, field_at, field_question, reading_question, head_question};
-ghost use Rattle.config.specs.Quick.{one_byte_most};
+ghost use Rattle.model.specs.Answers.{field_of};
+ghost use Rattle.model.specs.ConfigFile.{field_at};
 
-use model::{Fault, Field, Head, Num, Reading};
-
-// Question 1 or 2, which a number answers with no.
-pub fn num_question(n: Num) -> u8
-    ensures { result ≡ num_question n }
-{
-    match n {
-        Num::Bad(f) => match f {
-            Fault::Cut => 1,
-            Fault::Form => 2,
-        },
-        Num::Got(_, _) => 0,
-    }
-}
-
-pub fn field_question(f: Field) -> u8
-    ensures { result ≡ field_question f }
-{
-    match f {
-        Field::No(q) => q,
-        Field::Value(_, _) => 0,
-    }
-}
-
-pub fn reading_question(r: Reading) -> u8
-    ensures { result ≡ reading_question r }
-{
-    match r {
-        Reading::Refused(q) => q,
-        Reading::At(_) => 0,
-    }
-}
-
-pub fn head_question(h: Head) -> u8
-    ensures { result ≡ head_question h }
-{
-    match h {
-        Head::Stopped(q) => q,
-        Head::Counted(_, _) => 0,
-    }
-}
+use model::Question;
 
 // A number below this has one byte.
-const ONE_BYTE: u8 = 128;
-
-// The largest number of one byte that is at most `most`.
-pub fn one_byte_most(most: u8) -> u8
-    ensures { result ≡ one_byte_most most }
-{
-    if most < ONE_BYTE { most } else { ONE_BYTE - 1 }
-}
+pub const ONE_BYTE: u8 = 128;
 
 // A place below this has two more bytes after its own.
 pub fn triples_end(s: &[u8]) -> usize
     ensures { result ≡ length s.now - 2 }
 {
-    if s.len() < 2 { 0 } else { s.len() - 2 }
+    s.len().saturating_sub(2)
 }
 
-// The number at `at` for a field from low to high: question 1, then 2, then 3.
-pub fn read_field(s: &[u8], at: usize, low: u8, high: u8) -> Field
-    ensures { result ≡ field_at s.now at low high }
+// The number at `at` for a field from low to high, with the place after it.
+#[tactic(auto, using(crate::proofs::Readers::field_laws))]
+pub fn read_number(s: &[u8], at: usize, low: usize, high: usize) -> Result<(usize, usize), Question>
+    ensures { field_of result ≡ field_at s.now at low high }
 {
-    let n = varint::decode(s, at);
-    let Num::Got(v, next) = n else {
-        return Field::No(num_question(n));
-    };
-    if v < (low as usize) {
-        return Field::No(3);
+    match varint::decode(s, at) {
+        Ok((v, next)) if low <= v && v <= high => Ok((v, next)),
+        Ok(_) => Err(Question::InRange),
+        Err(fault) => Err(fault.question()),
     }
-    if (high as usize) < v {
-        return Field::No(3);
-    }
-    Field::Value(v as u8, next)
 }
 
-// The same. Most numbers have one byte.
-pub fn quick_field(s: &[u8], at: usize, low: u8, high: u8) -> Field
-    ensures { result ≡ field_at s.now at low high }
+// The same of a field that a byte in memory holds. Most numbers have one byte in the file.
+#[tactic(auto, using(crate::proofs::Ranged::short_laws))]
+pub fn read_field(s: &[u8], at: usize, low: u8, high: u8) -> Result<(u8, usize), Question>
+    ensures { field_of result ≡ field_at s.now at low high }
 {
     if at < s.len() {
         let b = s[at];
-        if b < ONE_BYTE {
-            if low <= b {
-                if b <= high {
-                    return Field::Value(b, at + 1);
-                }
-            }
+        if b < ONE_BYTE && low <= b && b <= high {
+            return Ok((b, at + 1));
         }
     }
-    read_field(s, at, low, high)
+    let (v, next) = read_number(s, at, low as usize, high as usize)?;
+    Ok((v as u8, next))
 }

@@ -26,11 +26,11 @@ use Rattle.model.specs.ConfigFile.{
   load,
 }
 use Rattle.model.specs.declared.Fault.TheVariants.{Cut, Form}
-use Rattle.model.specs.declared.Num.{Num}
-use Rattle.model.specs.declared.Num.TheVariants.{Got, Bad}
-use Rattle.model.specs.declared.Field.TheVariants.{Value, No}
-use Rattle.model.specs.declared.Head.{Head}
-use Rattle.model.specs.declared.Head.TheVariants.{Counted, Stopped}
+use Rattle.model.specs.Num.{Num}
+use Rattle.model.specs.Num.{Got, Bad}
+use Rattle.model.specs.Field.{Value, No}
+use Rattle.model.specs.Head.{Head}
+use Rattle.model.specs.Head.{Counted, Stopped}
 use Rattle.model.proofs.Lists.{and_r, not-true}
 use Rattle.model.proofs.OldNumbers.{still_read, newly_read}
 use Rattle.model.proofs.Accepted.{HeadTold, counts-told}

@@ -11,7 +11,7 @@ use lib.Dec.{leb, eqb}
 use borrow.Author.Tests.{eqb-true}
 use Rattle.model.specs.Operation.{most_code, most_items, object_at, second_at, form_at, read, onward, and_then, turns}
 use Rattle.model.specs.declared.Operation.{Operation}
-use Rattle.model.specs.declared.Parse.{Parse}
+use Rattle.model.specs.Parse.{Parse}
 use Rattle.model.proofs.Lists.{and_l, and_r, both_true}
 use Rattle.continuity.specs.Records.{items_length, items_numbers, within}
 use Rattle.continuity.proofs.Items.{Item, Items, onto}

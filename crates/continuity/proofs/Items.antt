@@ -29,10 +29,10 @@ use Rattle.model.specs.Operation.{
   object_by,
 }
 use Rattle.model.specs.declared.Operation.{Operation}
-use Rattle.model.specs.declared.Parse.{Parse}
+use Rattle.model.specs.Parse.{Parse}
 use Rattle.model.specs.declared.Fault.TheVariants.{Form}
-use Rattle.model.specs.declared.Num.{Num}
-use Rattle.model.specs.declared.Num.TheVariants.{Got, Bad}
+use Rattle.model.specs.Num.{Num}
+use Rattle.model.specs.Num.{Got, Bad}
 use Rattle.model.proofs.Lists.{and_l, and_r, both_true, not-true}
 use Rattle.continuity.specs.Records.{
   item_length,

@@ -14,7 +14,7 @@ use Rattle.model.specs.State.{State, area_length, view, layout, well_formed}
 use Rattle.model.specs.Older.{no_locks, older_length, older_view, older_layout, older_formed}
 use Rattle.model.specs.Operation.{Parsed, read_operation_by, read_operation}
 use Rattle.model.specs.declared.Config.{Config}
-use Rattle.model.specs.declared.Loaded.{Loaded}
+use Rattle.model.specs.Loaded.{Loaded}
 use Rattle.model.proofs.Lists.{both_true}
 use Rattle.model.proofs.StateLaws.{view-layout}
 use Rattle.model.proofs.OldRecords.{read_stays}

@@ -19,7 +19,7 @@ use Rattle.sources.specs.Gate.{Source, config_of, file_source, fresh_on, operate
 use Rattle.model.specs.Separation.{Call, after_call}
 use Rattle.sources.specs.Separation.{answers_of, area_after, initial}
 use Rattle.model.specs.declared.Config.{Config}
-use Rattle.model.specs.declared.Loaded.{Loaded}
+use Rattle.model.specs.Loaded.{Loaded}
 use Rattle.model.proofs.Lists.{both_true}
 use Rattle.model.proofs.StateLaws.{view-layout}
 use Rattle.model.proofs.Accepted.{load-sound}

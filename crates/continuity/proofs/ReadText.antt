@@ -23,9 +23,9 @@ use Rattle.model.specs.Operation.{
   ended,
   read_operation_by,
 }
-use Rattle.model.specs.declared.Num.{Num}
-use Rattle.model.specs.declared.Num.TheVariants.{Got, Bad}
-use Rattle.model.specs.declared.Parse.{Parse}
+use Rattle.model.specs.Num.{Num}
+use Rattle.model.specs.Num.{Got, Bad}
+use Rattle.model.specs.Parse.{Parse}
 use Rattle.continuity.specs.Past.{Past, coded, reading_in, code_in, read_then}
 use Rattle.continuity.proofs.RecordLength.{args_took}
 

@@ -36,7 +36,7 @@ use Rattle.model.specs.Operation.{
   read_operation_by,
 }
 use Rattle.model.specs.declared.Operation.{Operation}
-use Rattle.model.specs.declared.Parse.{Parse}
+use Rattle.model.specs.Parse.{Parse}
 use Rattle.model.specs.declared.Family.{Family}
 use Rattle.model.specs.declared.Family.TheVariants.{Write, Copy, Create, Destroy, Activate, Deactivate, Lock, Unlock}
 use Rattle.model.specs.declared.Actor.{Actor}

@@ -24,7 +24,7 @@ use Rattle.model.specs.Questions.{ask, judge, q11}
 use Rattle.model.specs.Gate.{or_else, judged, verdict, Outcome}
 use Rattle.sources.specs.Gate.{Source, config_of, file_source, fresh_on, operate_on}
 use Rattle.sources.specs.Separation.{final}
-use Rattle.model.specs.declared.Parse.{Parse}
+use Rattle.model.specs.Parse.{Parse}
 use Rattle.model.specs.declared.Config.{Config}
 use Rattle.model.proofs.Lists.{not-true, no_both}
 use Rattle.model.proofs.OldRecords.{old_records}

@@ -14,7 +14,7 @@ use Rattle.sources.specs.Gate.{Source, config_of, file_source, fresh_on, operate
 use Rattle.model.specs.Separation.{Call, after_call}
 use Rattle.sources.specs.Separation.{area_after, initial}
 use Rattle.model.specs.declared.Config.{Config}
-use Rattle.model.specs.declared.Loaded.{Loaded}
+use Rattle.model.specs.Loaded.{Loaded}
 use Rattle.model.proofs.Lists.{and_l, and_r, or_right, both_true}
 use Rattle.model.proofs.Older.{older_layout_lem}
 use Rattle.model.proofs.WiderFiles.{load-wider}

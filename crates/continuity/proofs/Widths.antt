@@ -9,7 +9,7 @@ use lib.Dec.{ltb, leb}
 use borrow.Author.Tests.{lt-ltb, le-ltb, le-leb, ltb-true, ltb-false, leb-true}
 use Rattle.model.specs.Number.{most_bytes, lead, value_of, shortest, formed_to, form_to, head_to, number_to, bytes_to}
 use Rattle.model.specs.declared.Fault.TheVariants.{Cut, Form}
-use Rattle.model.specs.declared.Num.TheVariants.{Got, Bad}
+use Rattle.model.specs.Num.{Got, Bad}
 use Rattle.model.proofs.Lists.{and_l, and_r}
 
 -- what a number that was read tells of the bytes at the head

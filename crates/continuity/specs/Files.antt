@@ -5,7 +5,7 @@ use Rattle.model.specs.Config.{serial_edition, first_limits}
 use Rattle.model.specs.ConfigFile.{load_to, load}
 use Rattle.model.specs.Gate.{make_fresh, operate}
 use Rattle.model.specs.Serials.{Marked}
-use Rattle.model.specs.declared.Num.TheVariants.{Got}
+use Rattle.model.specs.Num.{Got}
 
 -- every file: the same, or a number that was too large is out of its field's range now, or it is of edition 2
 pub data Since (file : List ℕ) : Type 0 where

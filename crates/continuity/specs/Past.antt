@@ -26,9 +26,9 @@ use Rattle.model.specs.Separation.{Call}
 use Rattle.model.specs.declared.Family.{Family}
 use Rattle.model.specs.declared.Actor.{Actor}
 use Rattle.model.specs.declared.Config.{Config}
-use Rattle.model.specs.declared.Loaded.{Loaded}
+use Rattle.model.specs.Loaded.{Loaded}
 use Rattle.model.specs.declared.Operation.{Operation}
-use Rattle.model.specs.declared.Parse.{Parse}
+use Rattle.model.specs.Parse.{Parse}
 
 -- what requests of document 02 changed in calls that were there before them
 pub record Past : Type 0 where

@@ -171,8 +171,7 @@ module _ (m : Scene) (c : ℕ) where
       }
 
   -- one value more
-  pub seeing_more : (s d e n v y : ℕ) → ValuesOk m.config.counts m.config.values.count
-      m.config.values.entries
+  pub seeing_more : (s d e n v y : ℕ) → ValuesOk m.config
       → v ≤ m.config.counts.values → bit d v ≡ 1 → Cleared d v e → Without y s n
       → OpenedWords kind m.config.values.count m.config.values.entries m.state v y → Seeing m c s d
       → Seeing m c (bit_or s n) (bit_or e n)
@@ -259,6 +258,10 @@ module _ (m : Scene) (c : ℕ) where
         ⊎_elim (λ x. absurd (none v (value_known (pair_read r)) x))
         (λ x. subst (λ (w : ℕ). bit s w ≡ 1) (ap (held m.state) ob ∙ hv) (x op st))
         (g.closed v j b (record { low = lj; high = hj }))
+
+    -- what is seen exists
+    pub seen_known : (s d v : ℕ) → Seeing m c s d → bit d v ≡ 1 → v ≤ m.config.counts.values
+    seen_known s d v g h = value_known (pair_read (g.right v (g.within v h)).read)
 
     pub today_of_lem : (s d : ℕ) → Seeing m c s d → ((v : ℕ) → v ≤ m.config.counts.values → bit d v ≡ 1 → ⊥)
         → Today m c s

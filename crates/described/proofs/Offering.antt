@@ -23,7 +23,9 @@ use Rattle.model.proofs.Entries.{entry_place_lem}
 use Rattle.model.proofs.ClosureExact.{described_exact}
 use Rattle.scene.specs.Digits.{bit, Cleared, Without, Has}
 use Rattle.scene.specs.Scene.{Scene, entry_of, count_of, In, ValuesOk, object_slots}
-use Rattle.described.specs.Today.{wanted}
+use Rattle.described.specs.declared.offers.Transfer.{Transfer}
+use Rattle.described.specs.declared.offers.Transfer.TheVariants.{Read, Write}
+use Rattle.described.specs.Today.{wanted, today}
 use Rattle.described.specs.Offers.{read_digit, Offer, Put, Noted, NotedBelow, NotedAll, Offered}
 use Rattle.scene.proofs.Digits.{bit_zero, or_left, or_right, or_out, pow_bit, pow_only, some_bit}
 use Rattle.scene.proofs.Ranges.{entry-there}
@@ -159,8 +161,7 @@ module _ (m : Scene) where
           all = λ o v e r l. absurd (bit_zero v (f.all o v r).1);
         }
 
-    pub offered_of : (s d : ℕ) (t : List ℕ) → ValuesOk m.config.counts m.config.values.count
-        m.config.values.entries
+    pub offered_of : (s d : ℕ) (t : List ℕ) → ValuesOk m.config
         → Today m c s → ((v : ℕ) → v ≤ m.config.counts.values → bit d v ≡ 1 → ⊥) → Noting m s d t → Offered m c t
     offered_of s d t ok f none g =
         record {
@@ -189,7 +190,7 @@ same_test false s f g = sym (not-true s (λ h. false≢true (g h)))
 
 -- what is described
 module _ (config : Config) (b : State) (c : ℕ) (t : List ℕ)
-    (of : Offered (record { config = config; storing = false; state = b }) c t) where
+    (of : Offered (today config b) c t) where
   -- an entry that passes is offered by a digit
   some_of : (ok : Entry → Bool) (n k : ℕ) → Has t n k
       → ((e : Entry) → e.object ≡ n → e.value ≤ most_values → Offer e k → ok e ≡ true)
@@ -243,17 +244,6 @@ module _ (config : Config) (b : State) (c : ℕ) (t : List ℕ)
         subst (λ (o : ℕ). Has t o read_digit) (eqb-true e.object n (and_l (eqb e.object n) (reads e) h))
         (f read_digit (inl (and_r (eqb e.object n) (reads e) h, refl)))
 
-    -- no object has such a number
-    pub described_past : length t ≤ n → (write : Bool) → false ≡ described config b c (wanted config n write w)
-    described_past far true =
-        sym (not-true _ (λ h. let (e, k, small, f) = some_from (write_entry config n w) h in
-        bit_zero e.value (subst (λ (y : ℕ). bit y e.value ≡ 1) (get_or-eq_default t 0 far)
-        (write_digit e k f))))
-    described_past far false =
-        sym (not-true _ (λ h. let (e, k, small, f) = some_from (read_entry n) h in
-        bit_zero read_digit (subst (λ (y : ℕ). bit y read_digit ≡ 1) (get_or-eq_default t 0 far)
-        (read-digit e k f))))
-
     pub described-read : eqb (bit x read_digit) 1 ≡ described config b c (read_entry n)
     described-read =
         same_test _ _
@@ -294,3 +284,15 @@ module _ (config : Config) (b : State) (c : ℕ) (t : List ℕ)
         ⊎_elim (λ q. absurd (omega (arith, few, pow_only read_digit e.value q)))
         (λ q. rw (ne_eqb y 0 (λ z. bit_zero e.value (subst (λ (y : ℕ). bit y e.value ≡ 1) z q))))
         (wo.all e.value (write_digit e k f)))
+
+  -- no object has such a number
+  pub described_past : (n : ℕ) → length t ≤ n → (asked : Transfer)
+      → false ≡ described config b c (wanted config n asked)
+  described_past n far Read =
+      sym (not-true _ (λ h. let (e, k, small, f) = some_from (read_entry n) h in
+      bit_zero read_digit (subst (λ (y : ℕ). bit y read_digit ≡ 1) (get_or-eq_default t 0 far)
+      (read-digit n 0 e k f))))
+  described_past n far (Write w) =
+      sym (not-true _ (λ h. let (e, k, small, f) = some_from (write_entry config n w) h in
+      bit_zero e.value (subst (λ (y : ℕ). bit y e.value ≡ 1) (get_or-eq_default t 0 far)
+      (write_digit n w e k f))))

@@ -8,6 +8,8 @@ use Rattle.model.specs.declared.Config.{Config}
 use Rattle.scene.specs.Digits.{bit}
 use Rattle.scene.specs.Rules.{opens, starts, owned}
 use Rattle.scene.specs.Scene.{Scene, In}
+use Rattle.described.specs.declared.offers.Transfer.{Transfer}
+use Rattle.described.specs.declared.offers.Transfer.TheVariants.{Read, Write}
 
 -- the word x has the value that object o holds if it is an active descriptor, and no other
 pub record HeldWord (kind : List ℕ) (b : State) (o x : ℕ) : Type 0 where
@@ -32,7 +34,7 @@ pub record OpenedWord (kind : List ℕ) (b : State) (e : Entry) (x : ℕ) : Type
       → (opens kind e ≡ true) × (starts kind b e.object ≡ true) × (held b e.object ≡ w)
   pub all : opens kind e ≡ true → starts kind b e.object ≡ true → bit x (held b e.object) ≡ 1
 
--- the same of all entries of value v below i
+-- the same of all entries of value v up to i
 pub record OpenedBelow (kind count table : List ℕ) (b : State) (v i x : ℕ) : Type 0 where
   pub right : (w : ℕ) → bit x w ≡ 1
       → (j : ℕ) × In (get_or count v 0) j × (opens kind (entry_at table (entry_place v j)) ≡ true)
@@ -45,11 +47,15 @@ pub record OpenedBelow (kind count table : List ℕ) (b : State) (v i x : ℕ) :
 abbrev pub OpenedWords : List ℕ → List ℕ → List ℕ → State → ℕ → ℕ → Type 0
 OpenedWords kind count table b v x = OpenedBelow kind count table b v (get_or count v 0) x
 
--- an entry for a write to object n, for kind 1 with the stored value w; or for a read of it
-abbrev pub wanted : Config → ℕ → Bool → ℕ → Entry → Bool
-wanted config n true w = write_entry config n w
-wanted config n false w = read_entry n
+-- what a search looks at with today's values: write entries do not count
+abbrev pub today : Config → State → Scene
+today config b = record { config = config; storing = false; state = b }
+
+-- an entry for a read of object n; or for a write to it, for kind 1 with the stored value w
+abbrev pub wanted : Config → ℕ → Transfer → Entry → Bool
+wanted config n Read = read_entry n
+wanted config n (Write w) = write_entry config n w
 
 -- device c has such an entry with today's values
-abbrev pub is_described : Scene → ℕ → ℕ → Bool → ℕ → Bool
-is_described m c n write w = described m.config m.state c (wanted m.config n write w)
+abbrev pub is_described : Config → State → ℕ → ℕ → Transfer → Bool
+is_described config b c n t = described config b c (wanted config n t)

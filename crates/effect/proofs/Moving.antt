@@ -1,5 +1,5 @@
 -- Objects put into a partition and taken out of it.
-use Prim.Native.Nat.{ℕ, zero, suc, ◌+◌, ◌≤◌, ◌<◌}
+use Prim.Native.Nat.{ℕ, zero, suc, ◌+◌, ◌-◌, ◌≤◌, ◌<◌, min}
 use mathlib.Core.Path.{◌≡◌, refl, sym, ap, ◌∙◌}
 use mathlib.Core.Logic.{◌⊎◌, inl, inr}
 use mathlib.Core.List.{List, [], ◌∷◌}
@@ -10,26 +10,24 @@ use native.Mathlib.Omega.{arith}
 use lib.ListN.{length, get_or, set}
 use lib.Seq.{set-get_or}
 use lib.Dec.{eqb, leb}
-use borrow.Author.Tests.{eq-eqb, ne_eqb, lt-leb, not-true, not-false}
+use borrow.Author.Tests.{eq-eqb, ne_eqb, lt-leb}
 use Rattle.model.specs.Base.{put, number, below}
 use Rattle.model.specs.Config.{owns}
 use Rattle.model.specs.State as Columns
 use Rattle.model.specs.State.{State, cleared, area_length, view, layout}
-use Rattle.model.specs.declared.Family.{Family}
-use Rattle.model.specs.declared.Family.TheVariants.{Create, Destroy, Activate, Deactivate, Lock, Unlock}
+use Rattle.model.specs.declared.Family.TheVariants.{Activate, Deactivate}
 use Rattle.model.specs.declared.Actor.{Actor}
 use Rattle.model.specs.declared.Actor.TheVariants.{Driver, Device, External}
-use Rattle.model.specs.Effect.{created_status, apply}
+use Rattle.model.specs.Effect.{concerned, apply}
 use Rattle.model.specs.declared.Config.{Config}
 use Rattle.model.specs.declared.Operation.{Operation}
 use Rattle.model.proofs.Lists.{partly, partly_get, partly_more}
 use Rattle.model.proofs.StateLaws.{Shape, view-layout}
 use Rattle.model.proofs.StateBytes.{layout-view}
-use Rattle.state.specs.Change.{with_status, with_driver, with_device, with_object}
-use Rattle.state.specs.Change.{with_content, with_lock, objects_lent}
-use Rattle.effect.specs.Moves.{moved_at, clearable, owned_by, listed, moved}
-use Rattle.state.specs.Bytes.{Lesser}
-use Rattle.state.proofs.Idle.{idle_rest, lesser_end}
+use Rattle.state.specs.Change.{objects_lent, with_driver, with_device, with_object}
+use Rattle.state.specs.Change.{with_content}
+use Rattle.effect.specs.Moves.{owned_by, moved_at, clearable, listed, moved, with_subject}
+use Rattle.state.proofs.Idle.{idle_rest, min_end}
 use Rattle.state.proofs.Places.{view_shape}
 use Rattle.state.proofs.Turns.{
   after-driver,
@@ -42,43 +40,31 @@ use Rattle.state.proofs.Turns.{
   changed_to_all,
 }
 
--- tests
-module _ (kind : List ℕ) (n : ℕ) (clears : Bool) where
-  pub clear_none : not clears ≡ true → false ≡ clearable clears kind n
-  unfolding clearable
-  clear_none h = rw (not-true clears h)
-
-  pub clear_some : (k : ℕ) → not clears ≡ false → k ≡ get_or kind n 0 → not (eqb k 4) ≡ clearable clears kind n
-  unfolding clearable
-  clear_some k h e = rw (not-false clears h, e)
-
 -- the number, the class and the owner of an object
-pub owned_by_lem : (objects : ℕ) (class owner : List ℕ) (a k n : ℕ) {x y : ℕ} → x ≡ get_or class n 0 → y ≡ get_or
-    owner n 0
+pub owned_by_lem : (objects : ℕ) (class owner : List ℕ) (a k n : ℕ) {x y : ℕ} → x ≡ get_or class n 0
+    → y ≡ get_or owner n 0
     → (leb 1 n && leb n objects && eqb x a && eqb y k) ≡ owned_by objects class owner a k n
 unfolding owned_by objects_lent
 owned_by_lem objects class owner a k n p q = rw (p, q)
 
 -- one turn
 module _ (room : ℕ) (s : List ℕ) (n p : ℕ) where
-  pub turn_none : (hit clears : Bool) → length s ≡ area_length room → not hit ≡ true
-      → s ≡ layout (moved_at hit clears n p (view room s))
+  turn_none : length s ≡ area_length room → s ≡ layout (moved_at false false n p (view room s))
   unfolding moved_at
-  turn_none hit clears l h = rw (not-true hit h) (sym (layout-view room s l))
+  turn_none l = sym (layout-view room s l)
 
-  pub turn_move : (t : List ℕ) (hit clears : Bool) → not hit ≡ false → clears ≡ false
-      → t ≡ layout (with_object (view room s) n p) → t ≡ layout (moved_at hit clears n p (view room s))
+  pub turn_move : (t : List ℕ) (clears : Bool) → clears ≡ false → t ≡ layout (with_object (view room s) n p)
+      → t ≡ layout (moved_at true clears n p (view room s))
   unfolding moved_at
-  turn_move t hit clears h w e = rw (not-false hit h, w) e
+  turn_move t clears w e = rw w e
 
-  pub turn_clear : (t u : List ℕ) (hit clears : Bool) → not hit ≡ false → clears ≡ true
-      → t ≡ layout (with_object (view room s) n p) → u ≡ layout (with_content (view room t) n cleared)
-      → u ≡ layout (moved_at hit clears n p (view room s))
+  pub turn_clear : (t u : List ℕ) (clears : Bool) → clears ≡ true → t ≡ layout (with_object (view room s) n p)
+      → u ≡ layout (with_content (view room t) n cleared) → u ≡ layout (moved_at true clears n p (view room s))
   unfolding moved_at
-  turn_clear t u hit clears h w e f = rw (not-false hit h, w)
+  turn_clear t u clears w e f = rw w
       (f ∙ ap (λ (b : State). layout (with_content b n cleared)) (after-object room s t n p e))
 
-  pub after_turn : (t : List ℕ) (hit clears : Bool) → t ≡ layout (moved_at hit clears n p (view room s))
+  after_turn : (t : List ℕ) (hit clears : Bool) → t ≡ layout (moved_at hit clears n p (view room s))
       → view room t ≡ moved_at hit clears n p (view room s)
   unfolding moved_at
   after_turn t false clears e = ap (view room) e ∙ view-layout room (view room s) (view_shape room s)
@@ -112,89 +98,108 @@ turn_state true false n p b = refl
 turn_state true true n p b = refl
 
 -- the objects that are hit among the first i
-unfoldable pub moved_to : (ℕ → Bool) → Bool → List ℕ → ℕ → ℕ → State → State
-moved_to hit clears kind p i b =
-    changed_to (λ n q. cond (hit n) p q) (λ n c. cond (hit n && clearable clears kind n) cleared c) i b
+unfoldable pub moved_to : (ℕ → Bool) → Config → Bool → ℕ → ℕ → State → State
+moved_to hit config clears p i b =
+    changed_to (λ n q. cond (hit n) p q) (λ n c. cond (hit n && clearable config clears n) cleared c) i b
 
-module _ (hit : ℕ → Bool) (clears : Bool) (kind : List ℕ) (p room : ℕ) (s₀ : List ℕ) where
-  pub move_none : view room s₀ ≡ moved_to hit clears kind p 0 (view room s₀)
+module _ (hit : ℕ → Bool) (clears : Bool) (config : Config) (p room : ℕ) (s₀ : List ℕ) where
+  pub move_none : view room s₀ ≡ moved_to hit config clears p 0 (view room s₀)
   unfolding moved_to
   move_none =
-      changed_to_none (λ n q. cond (hit n) p q) (λ n c. cond (hit n && clearable clears kind n) cleared c)
+      changed_to_none (λ n q. cond (hit n) p q) (λ n c. cond (hit n && clearable config clears n) cleared c)
       (view room s₀)
 
   move_state : (i : ℕ) (b : State) → Shape room b → i < room
-      → moved_at (hit (suc i)) (clearable clears kind (suc i)) (suc i) p (moved_to hit clears kind p i b)
-      ≡ moved_to hit clears kind p (suc i) b
+      → moved_at (hit (suc i)) (clearable config clears (suc i)) (suc i) p (moved_to hit config clears p i b)
+      ≡ moved_to hit config clears p (suc i) b
   unfolding moved_to changed_to
   move_state i b sh h =
-      turn_state (hit (suc i)) (clearable clears kind (suc i)) (suc i) p (moved_to hit clears kind p i b)
+      turn_state (hit (suc i)) (clearable config clears (suc i)) (suc i) p (moved_to hit config clears p i b)
       ∙ (λ j. Columns.with_content (Columns.with_object b
       (column_on (λ n q. cond (hit n) p q) b.object i 0 p (hit (suc i)) (omega (arith, sh.objects)) refl j))
-      (column_on (λ n c. cond (hit n && clearable clears kind n) cleared c) b.content i cleared cleared
-      (hit (suc i) && clearable clears kind (suc i)) (omega (arith, sh.contents)) refl j))
+      (column_on (λ n c. cond (hit n && clearable config clears n) cleared c) b.content i cleared cleared
+      (hit (suc i) && clearable config clears (suc i)) (omega (arith, sh.contents)) refl j))
 
-  pub move_on : (i : ℕ) (s t : List ℕ) (h w : Bool) → view room s ≡ moved_to hit clears kind p i (view room s₀)
-      → i < room → h ≡ hit (i + 1) → w ≡ clearable clears kind (i + 1)
-      → t ≡ layout (moved_at h w (i + 1) p (view room s))
-      → view room t ≡ moved_to hit clears kind p (i + 1) (view room s₀)
-  move_on i s t h w inv l e f g =
-      after_turn room s (i + 1) p t h w g
-      ∙ rw (inv, e, f, add-one i) (move_state i (view room s₀) (view_shape room s₀) l)
+  -- the turn for object n, in which it is moved or not
+  move_on : (n : ℕ) (s t : List ℕ) (h w : Bool) → view room s ≡ moved_to hit config clears p (n - 1) (view room s₀)
+      → 1 ≤ n → n ≤ room → moved_at h w n p (moved_to hit config clears p (n - 1) (view room s₀))
+      ≡ moved_at (hit n) (clearable config clears n) n p (moved_to hit config clears p (n - 1) (view room s₀))
+      → t ≡ layout (moved_at h w n p (view room s)) → view room t ≡ moved_to hit config clears p (n + 1 - 1) (view room
+      s₀)
+  move_on n s t h w inv low high e g =
+      after_turn room s n p t h w g ∙ (ap (moved_at h w n p) inv ∙ (e ∙ (go (n - 1) n (omega arith) (omega arith)
+      ∙ ap (λ (k : ℕ). moved_to hit config clears p k (view room s₀)) (omega arith))))
+    where
+      go : (i m : ℕ) → m ≡ suc i → i < room
+          → moved_at (hit m) (clearable config clears m) m p (moved_to hit config clears p i (view room s₀))
+          ≡ moved_to hit config clears p (suc i) (view room s₀)
+      go i m q l = rw q (move_state i (view room s₀) (view_shape room s₀) l)
 
-  pub move_within : (last i : ℕ) (s t : List ℕ) (h w : Bool)
-      → view room s ≡ moved_to hit clears kind p i (view room s₀) → i < last → {objects : ℕ} → Lesser objects room last
-      → h ≡ hit (i + 1) → w ≡ clearable clears kind (i + 1) → t ≡ layout (moved_at h w (i + 1) p (view room s))
-      → view room t ≡ moved_to hit clears kind p (i + 1) (view room s₀)
-  move_within last i s t h w inv l m e f g = move_on i s t h w inv (omega (arith, m.second)) e f g
+  module _ (last n : ℕ) (s : List ℕ) (inv : view room s ≡ moved_to hit config clears p (n - 1) (view room s₀))
+      (low : 1 ≤ n) (high : n < last + 1) (objects : ℕ) (m : last ≡ min room objects) (h : Bool) (e : h ≡ hit n) where
+    pub move_within : (t : List ℕ) → h ≡ true → t ≡ layout (moved_at true (clearable config clears n) n p (view room s))
+        → view room t ≡ moved_to hit config clears p (n + 1 - 1) (view room s₀)
+    move_within t x g =
+        let q : true ≡ hit n = sym x ∙ e in
+        move_on n s t true (clearable config clears n) inv low (omega arith)
+        (ap (λ (r : Bool). moved_at r (clearable config clears n) n p
+        (moved_to hit config clears p (n - 1) (view room s₀))) q) g
 
-  pub move_end : (i : ℕ) (s : List ℕ) → length s ≡ length s₀ → length s₀ ≡ area_length room
-      → view room s ≡ moved_to hit clears kind p i (view room s₀) → i ≤ room → room ≤ i
-      → s ≡ layout (moved hit clears kind p (view room s₀))
+    pub move_past : length s ≡ area_length room → h ≡ false
+        → view room s ≡ moved_to hit config clears p (n + 1 - 1) (view room s₀)
+    unfolding moved_at
+    move_past l x =
+        let q : hit n ≡ false = sym e ∙ x in
+        move_on n s s false false inv low (omega arith) (rw q) (turn_none room s n p l)
+
+  move_end : (i : ℕ) (s : List ℕ) → length s ≡ length s₀ → length s₀ ≡ area_length room
+      → view room s ≡ moved_to hit config clears p i (view room s₀) → i ≤ room → room ≤ i
+      → s ≡ layout (moved hit config clears p (view room s₀))
   unfolding moved_to moved done
   move_end i s l m inv h k =
       sym (layout-view room s (l ∙ m))
       ∙ ap layout (inv ∙ changed_to_all (λ n q. cond (hit n) p q)
-      (λ n c. cond (hit n && clearable clears kind n) cleared c) room i (view room s₀) (view_shape room s₀) h k)
+      (λ n c. cond (hit n && clearable config clears n) cleared c) room i (view room s₀) (view_shape room s₀) h k)
 
 -- the objects after the first i are not hit
-module _ (hit : ℕ → Bool) (clears : Bool) (kind : List ℕ) (p room : ℕ) (s₀ : List ℕ) where
-  pub move_few : (i : ℕ) (s : List ℕ) → length s ≡ length s₀ → length s₀ ≡ area_length room
-      → view room s ≡ moved_to hit clears kind p i (view room s₀) → ((n : ℕ) → i < n → hit n ≡ false)
-      → s ≡ layout (moved hit clears kind p (view room s₀))
+module _ (hit : ℕ → Bool) (clears : Bool) (config : Config) (p room : ℕ) (s₀ : List ℕ) where
+  move_few : (i : ℕ) (s : List ℕ) → length s ≡ length s₀ → length s₀ ≡ area_length room
+      → view room s ≡ moved_to hit config clears p i (view room s₀) → ((n : ℕ) → i < n → hit n ≡ false)
+      → s ≡ layout (moved hit config clears p (view room s₀))
   unfolding moved_to moved changed_to
   move_few i s l m inv h =
       sym (layout-view room s (l ∙ m))
       ∙ ap layout (inv ∙ λ j. Columns.with_content (Columns.with_object (view room s₀)
       (idle_rest (λ n q. cond (hit n) p q) 0 0 i (view room s₀).object (λ n k q. rw (h n (omega arith))) j))
-      (idle_rest (λ n c. cond (hit n && clearable clears kind n) cleared c) cleared 0 i
+      (idle_rest (λ n c. cond (hit n && clearable config clears n) cleared c) cleared 0 i
       (view room s₀).content (λ n k q. rw (h n (omega arith))) j))
 
 -- nobody owns a record of an absent object
-owned_past : (objects : ℕ) (class owner : List ℕ) (a k n : ℕ) → objects < n → owned_by objects class owner a k n ≡ false
-owned_past objects class owner a k n h =
-    sym (owned_by_lem objects class owner a k n refl refl)
-    ∙ rw (lt-leb n objects h) (go (leb 1 n) (eqb (get_or class n 0) a) (eqb (get_or owner n 0) k))
+owned_past : (config : Config) (class k n : ℕ) → config.counts.objects < n → owns config class k n ≡ false
+owned_past config class k n h =
+    rw (lt-leb n config.counts.objects h)
+    (go (leb 1 n) (eqb (get_or config.objects.class n 0) class) (eqb (get_or config.objects.owner n 0) k))
   where
     go : (x y z : Bool) → (x && false && y && z) ≡ false
     go true y z = refl
     go false y z = refl
 
 -- a loop up to the last object, or to the last record
-pub move_owned_end : (objects : ℕ) (class owner : List ℕ) (a k : ℕ) (clears : Bool) (kind : List ℕ) (p room : ℕ)
-    (s₀ : List ℕ) (last i : ℕ) (s : List ℕ) → Lesser objects room last → i ≤ last → last ≤ i
+pub move_owned_end : (config : Config) (class k : ℕ) (clears : Bool) (p room : ℕ) (s₀ : List ℕ) (last i : ℕ)
+    (s : List ℕ) → last ≡ min room config.counts.objects → i ≡ last
     → length s ≡ length s₀ → length s₀ ≡ area_length room
-    → view room s ≡ moved_to (owned_by objects class owner a k) clears kind p i (view room s₀)
-    → s ≡ layout (moved (owned_by objects class owner a k) clears kind p (view room s₀))
-move_owned_end objects class owner a k clears kind p room s₀ last i s e low high l m inv =
-    go (lesser_end objects room last i e high)
+    → view room s ≡ moved_to (owns config class k) config clears p i (view room s₀)
+    → s ≡ layout (moved (owns config class k) config clears p (view room s₀))
+move_owned_end config class k clears p room s₀ last i s e f l m inv =
+    go (min_end config.counts.objects room i (omega arith))
   where
-    go : (objects ≤ i) ⊎ (room ≤ i) → s ≡ layout (moved (owned_by objects class owner a k) clears kind p (view room s₀))
+    go : (config.counts.objects ≤ i) ⊎ (room ≤ i) → s ≡ layout (moved (owns config class k) config clears p
+        (view room s₀))
     go (inl q) =
-        move_few (owned_by objects class owner a k) clears kind p room s₀ i s l m inv
-        (λ n r. owned_past objects class owner a k n (omega arith))
+        move_few (owns config class k) clears config p room s₀ i s l m inv
+        (λ n r. owned_past config class k n (omega arith))
     go (inr q) =
-        move_end (owned_by objects class owner a k) clears kind p room s₀ i s l m inv (omega (arith, e.second)) q
+        move_end (owns config class k) clears config p room s₀ i s l m inv (omega arith) q
 
 -- a column by its numbers, with one more of them changed
 module _ {A : Type 0} (f g : ℕ → A → A) where
@@ -247,21 +252,21 @@ listed_same l k =
     and_none true = refl
     and_none false = refl
 
-module _ (l : List ℕ) (clears : Bool) (kind : List ℕ) (p : ℕ) where
+module _ (l : List ℕ) (clears : Bool) (config : Config) (p : ℕ) where
   list_state : (k : ℕ) (b : State)
-      → moved_at true (clearable clears kind (get_or l k 0)) (get_or l k 0) p (moved (listed l k) clears kind p b)
-      ≡ moved (listed l (suc k)) clears kind p b
+      → moved_at true (clearable config clears (get_or l k 0)) (get_or l k 0) p (moved (listed l k) config clears p b)
+      ≡ moved (listed l (suc k)) config clears p b
   unfolding moved
   list_state k b =
-      turn_state true (clearable clears kind (get_or l k 0)) (get_or l k 0) p (moved (listed l k) clears kind p b)
+      turn_state true (clearable config clears (get_or l k 0)) (get_or l k 0) p (moved (listed l k) config clears p b)
       ∙ (λ j. Columns.with_content (Columns.with_object b
       (number_turn (λ n q. cond (listed l k n) p q) (λ n q. cond (listed l (suc k) n) p q) (get_or l k 0) p
       true b.object (λ m x h. rw (listed-other l k m h)) (λ x. rw (listed_same l k)) j))
-      (number_turn (λ n c. cond (listed l k n && clearable clears kind n) cleared c)
-      (λ n c. cond (listed l (suc k) n && clearable clears kind n) cleared c)
-      (get_or l k 0) cleared (clearable clears kind (get_or l k 0)) b.content
+      (number_turn (λ n c. cond (listed l k n && clearable config clears n) cleared c)
+      (λ n c. cond (listed l (suc k) n && clearable config clears n) cleared c)
+      (get_or l k 0) cleared (clearable config clears (get_or l k 0)) b.content
       (λ m x h. rw (listed-other l k m h))
-      (λ x. rw (listed_same l k) (last (listed l k (get_or l k 0)) (clearable clears kind (get_or l k 0)) x)) j))
+      (λ x. rw (listed_same l k) (last (listed l k (get_or l k 0)) (clearable config clears (get_or l k 0)) x)) j))
     where
       last : (t w : Bool) (x : List ℕ) → cond w cleared x ≡ cond w cleared (cond (t && w) cleared x)
       last true true x = refl
@@ -270,111 +275,72 @@ module _ (l : List ℕ) (clears : Bool) (kind : List ℕ) (p : ℕ) where
       last false false x = refl
 
   module _ (room : ℕ) (s₀ : List ℕ) where
-    pub list_none : view room s₀ ≡ moved (listed l 0) clears kind p (view room s₀)
+    pub list_none : view room s₀ ≡ moved (listed l 0) config clears p (view room s₀)
     unfolding moved listed
     list_none = λ j. Columns.with_content (Columns.with_object (view room s₀)
         (sym (number_same (λ n q. q) (λ n q. q) 0 (view room s₀).object (λ m x. refl)) j))
         (sym (number_same (λ n c. c) (λ n c. c) 0 (view room s₀).content (λ m x. refl)) j)
 
-    pub list_on : (i n : ℕ) (s t : List ℕ) (w : Bool) → view room s ≡ moved (listed l i) clears kind p (view room s₀)
-        → n ≡ get_or l i 0 → w ≡ clearable clears kind n → t ≡ layout (moved_at true w n p (view room s))
-        → view room t ≡ moved (listed l (i + 1)) clears kind p (view room s₀)
-    list_on i n s t w inv e f g =
-        after_turn room s n p t true w g
-        ∙ rw (inv, f, e, add-one i) (list_state i (view room s₀))
+    pub list_on : (i n : ℕ) (s t : List ℕ) → view room s ≡ moved (listed l i) config clears p (view room s₀)
+        → n ≡ get_or l i 0 → t ≡ layout (moved_at true (clearable config clears n) n p (view room s))
+        → view room t ≡ moved (listed l (i + 1)) config clears p (view room s₀)
+    list_on i n s t inv f g =
+        after_turn room s n p t true (clearable config clears n) g
+        ∙ rw (inv, f, add-one i) (list_state i (view room s₀))
 
     pub list_end : (i k : ℕ) (s : List ℕ) → length s ≡ length s₀ → length s₀ ≡ area_length room
-        → view room s ≡ moved (listed l i) clears kind p (view room s₀) → i ≤ k → k ≤ i
-        → s ≡ layout (moved (listed l k) clears kind p (view room s₀))
+        → view room s ≡ moved (listed l i) config clears p (view room s₀) → i ≤ k → k ≤ i
+        → s ≡ layout (moved (listed l k) config clears p (view room s₀))
     list_end i k s a b inv h q =
         let e : i ≡ k = omega arith in
         sym (layout-view room s (a ∙ b)) ∙ ap layout (rw (← e) inv)
 
 -- the operations
-module _ (room : ℕ) (op : Operation) (s t : List ℕ) where
-  pub created : {v : ℕ} → v ≡ created_status op → t ≡ layout (with_status (view room s) op.partition v)
-      → (config : Config) (a : Actor) → t ≡ layout (apply config op Create a (view room s))
-  unfolding apply with_status
-  created h e config a = e ∙ ap (λ (x : ℕ). layout (with_status (view room s) op.partition x)) h
+module _ (config : Config) (op : Operation) (b : State) where
+  kept : (hit : ℕ → Bool) (p : ℕ) (b : State) → moved hit config false p b
+      ≡ Columns.with_object b (number 0 (λ n q. cond (hit n) p q) b.object)
+  unfolding moved clearable
+  kept hit p b = ap (Columns.with_content (Columns.with_object b (number 0 (λ n q. cond (hit n) p q) b.object)))
+      (number_same (λ n c. c) (λ n c. cond (hit n && false) cleared c) 0 b.content (λ m x. go (hit m) x))
+    where
+      go : (h : Bool) (x : List ℕ) → cond (h && false) cleared x ≡ x
+      go true x = refl
+      go false x = refl
 
-  pub destroyed : t ≡ layout (with_status (view room s) op.partition 2) → (config : Config) (a : Actor)
-      → t ≡ layout (apply config op Destroy a (view room s))
-  unfolding apply with_status
-  destroyed e config a = e
+  pub activated : (a : Actor) → moved (concerned config op a) config true op.partition (with_subject op a op.partition
+      b)
+      ≡ apply config op Activate a b
+  unfolding apply moved clearable with_subject with_driver with_device
+  activated Driver = refl
+  activated Device = refl
+  activated External = refl
 
-  pub locked : t ≡ layout (with_lock (view room s) op.subject 1) → (config : Config)
-      → t ≡ layout (apply config op Lock Device (view room s))
-  unfolding apply with_lock
-  locked e config = e
+  pub deactivated : (a : Actor) → moved (concerned config op a) config false 0 (with_subject op a 0 b)
+      ≡ apply config op Deactivate a b
+  unfolding apply with_subject with_driver with_device
+  deactivated Driver = kept (concerned config op Driver) 0 (with_subject op Driver 0 b)
+  deactivated Device = kept (concerned config op Device) 0 (with_subject op Device 0 b)
+  deactivated External = kept (concerned config op External) 0 b
 
-  pub unlocked : t ≡ layout (with_lock (view room s) op.subject 0) → (config : Config)
-      → t ≡ layout (apply config op Unlock Device (view room s))
-  unfolding apply with_lock
-  unlocked e config = e
+-- what the actor's arm leaves
+module _ (config : Config) (op : Operation) (clears : Bool) (p room : ℕ) (s t u : List ℕ) where
+  pub by_driver : t ≡ layout (with_driver (view room s) op.subject p)
+      → u ≡ layout (moved (owns config 1 op.subject) config clears p (view room t))
+      → u ≡ layout (moved (concerned config op Driver) config clears p (with_subject op Driver p (view room s)))
+  unfolding with_subject
+  by_driver e f =
+      f ∙ ap (λ (b : State). layout (moved (owns config 1 op.subject) config clears p b))
+      (after-driver room s t op.subject p e)
 
-  module _ (config : Config) where
-    -- the objects that the operation's driver or device owns
-    abbrev owned : ℕ → ℕ → Bool
-    owned a = owned_by config.counts.objects config.objects.class config.objects.owner a op.subject
+  pub by_device : t ≡ layout (with_device (view room s) op.subject p)
+      → u ≡ layout (moved (owns config 2 op.subject) config clears p (view room t))
+      → u ≡ layout (moved (concerned config op Device) config clears p (with_subject op Device p (view room s)))
+  unfolding with_subject
+  by_device e f =
+      f ∙ ap (λ (b : State). layout (moved (owns config 2 op.subject) config clears p b))
+      (after-device room s t op.subject p e)
 
-    -- the objects that it lists
-    abbrev named : ℕ → Bool
-    named = listed op.objects op.count
-
-    pub activated_list : t ≡ layout (moved named true config.objects.kind op.partition (view room s))
-        → t ≡ layout (apply config op Activate External (view room s))
-    unfolding apply moved listed clearable
-    activated_list e = e
-
-    kept-content : (hit : ℕ → Bool) (l : List (List ℕ)) → number 0 (λ n c. cond (hit n && false) cleared c) l ≡ l
-    kept-content hit l = number_same (λ n c. c) (λ n c. cond (hit n && false) cleared c) 0 l (λ m x. go (hit m) x)
-      where
-        go : (h : Bool) (x : List ℕ) → cond (h && false) cleared x ≡ x
-        go true x = refl
-        go false x = refl
-
-    -- what an operation leaves, with contents that are the same
-    still : (f : Family) (a : Actor) {cs : List (List ℕ)} → cs ≡ (apply config op f a (view room s)).content
-        → layout (Columns.with_content (apply config op f a (view room s)) cs)
-        ≡ layout (apply config op f a (view room s))
-    still f a e = ap (λ (l : List (List ℕ)). layout (Columns.with_content (apply config op f a (view room s)) l)) e
-
-    pub deactivated_list : t ≡ layout (moved named false config.objects.kind 0 (view room s))
-        → t ≡ layout (apply config op Deactivate External (view room s))
-    unfolding apply moved listed clearable
-    deactivated_list e = e ∙ still Deactivate External (kept-content named (view room s).content)
-
-    module _ (u : List ℕ) where
-      pub activated_driver : t ≡ layout (with_driver (view room s) op.subject op.partition)
-          → u ≡ layout (moved (owned 1) true config.objects.kind op.partition (view room t))
-          → u ≡ layout (apply config op Activate Driver (view room s))
-      unfolding apply moved owned_by clearable objects_lent with_driver
-      activated_driver e f =
-          f ∙ ap (λ (b : State). layout (moved (owned 1) true config.objects.kind op.partition b))
-          (after-driver room s t op.subject op.partition e)
-
-      pub activated_device : t ≡ layout (with_device (view room s) op.subject op.partition)
-          → u ≡ layout (moved (owned 2) true config.objects.kind op.partition (view room t))
-          → u ≡ layout (apply config op Activate Device (view room s))
-      unfolding apply moved owned_by clearable objects_lent with_device
-      activated_device e f =
-          f ∙ ap (λ (b : State). layout (moved (owned 2) true config.objects.kind op.partition b))
-          (after-device room s t op.subject op.partition e)
-
-      pub deactivated_driver : t ≡ layout (with_driver (view room s) op.subject 0)
-          → u ≡ layout (moved (owned 1) false config.objects.kind 0 (view room t))
-          → u ≡ layout (apply config op Deactivate Driver (view room s))
-      unfolding apply moved owned_by clearable objects_lent with_driver
-      deactivated_driver e f =
-          f ∙ (ap (λ (b : State). layout (moved (owned 1) false config.objects.kind 0 b))
-          (after-driver room s t op.subject 0 e)
-          ∙ still Deactivate Driver (kept-content (owns config 1 op.subject) (view room s).content))
-
-      pub deactivated_device : t ≡ layout (with_device (view room s) op.subject 0)
-          → u ≡ layout (moved (owned 2) false config.objects.kind 0 (view room t))
-          → u ≡ layout (apply config op Deactivate Device (view room s))
-      unfolding apply moved owned_by clearable objects_lent with_device
-      deactivated_device e f =
-          f ∙ (ap (λ (b : State). layout (moved (owned 2) false config.objects.kind 0 b))
-          (after-device room s t op.subject 0 e)
-          ∙ still Deactivate Device (kept-content (owns config 2 op.subject) (view room s).content))
+  pub by_list : u ≡ layout (moved (listed op.objects op.count) config clears p (view room s))
+      → u ≡ layout (moved (concerned config op External) config clears p (with_subject op External p (view room s)))
+  unfolding with_subject moved listed
+  by_list f = f

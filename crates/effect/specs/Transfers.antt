@@ -1,24 +1,10 @@
 -- What the loops over items do to a state and to the answer area.
 use Rattle.std.specs.Prelude.{ℕ, ◌*◌, ◌<◌, ◌≡◌, List, get_or}
 use Rattle.model.specs.State.{content_bytes, State, with_content}
-use Rattle.model.specs.Operation.{object_at}
-use Rattle.model.specs.Effect.{item_bytes, stores, gathered}
+use Rattle.model.specs.Operation.{object_at, second_at}
+use Rattle.model.specs.Effect.{item_bytes, source_bytes, stores, gathered}
 use Rattle.model.specs.declared.Operation.{Operation}
 use Rattle.state.specs.Splice.{part}
-
--- an operation of which only its lists are known
-unfoldable pub operation_of : List ℕ → List ℕ → List ℕ → List ℕ → Operation
-operation_of objects seconds forms raw =
-    record {
-      code = 0;
-      subject = 0;
-      partition = 0;
-      count = 0;
-      objects = objects;
-      seconds = seconds;
-      forms = forms;
-      raw = raw;
-    }
 
 -- the bytes of item i
 unfoldable pub item_of : Operation → ℕ → List ℕ
@@ -43,3 +29,7 @@ slot answer i = part answer (content_bytes * i) content_bytes
 -- the first k destinations stored from an answer area
 unfoldable pub restored : List ℕ → List ℕ → ℕ → State → State
 restored seconds answer k b = with_content b (stores (λ i. get_or seconds i 0) (slot answer) k b.content)
+
+-- all destinations stored from the sources
+unfoldable pub copied : Operation → State → State
+copied op b = with_content b (stores (second_at op) (source_bytes op b) op.count b.content)

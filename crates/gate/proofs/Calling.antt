@@ -8,7 +8,9 @@ use native.Mathlib.Omega.{arith}
 use lib.ListN.{length}
 use lib.Dec.{eqb}
 use borrow.Author.Tests.{le-leb, lt-leb}
-use Rattle.model.specs.ConfigFile.{load}
+use Rattle.model.specs.Answers.{number_of}
+use Rattle.model.specs.Config.{blank}
+use Rattle.model.specs.ConfigFile.{load, accepted, refused}
 use Rattle.model.specs.State.{State, records, area_length, view, layout, well_formed}
 use Rattle.model.specs.Operation.{family_of, actor_of, read_operation}
 use Rattle.model.specs.Effect.{answer_bytes, answered}
@@ -18,7 +20,7 @@ use Rattle.model.specs.Programs.{Operated}
 use Rattle.model.specs.declared.Family.{Family}
 use Rattle.model.specs.declared.Actor.{Actor}
 use Rattle.model.specs.declared.Config.{Config}
-use Rattle.model.specs.declared.Loaded.{Loaded}
+use Rattle.model.specs.declared.Question.{Question}
 use Rattle.model.specs.declared.Operation.{Operation}
 use Rattle.model.proofs.Facts.{asked}
 use Rattle.questions.specs.Items.{names_no, places_no, first_no}
@@ -27,6 +29,7 @@ use Rattle.searches.specs.Ready.{Complete, Asked}
 use Rattle.searches.specs.Asking.{stores, leaves, enters}
 use Rattle.gate.specs.Carried.{carried}
 use Rattle.searches.proofs.Asking
+use Rattle.gate.proofs.Told
 use Rattle.searches.proofs.Unnamed
 
 -- the answer and both areas are those of the definition
@@ -35,30 +38,31 @@ Carried room config area bytes answer r s a =
     (r ≡ (carried room config area bytes answer).0)
     × ((s ≡ (carried room config area bytes answer).1) × (a ≡ (carried room config area bytes answer).2))
 
-module _ (file area bytes answer : List ℕ) {l : Loaded} (e : l ≡ load file) where
-  pub file-refused : (l.answer ≡ 0 → ⊥) → Operated file area bytes answer l.answer area answer
-  unfolding operate
-  file-refused n = rw (← e) (go l.answer n)
+module _ (file area bytes answer : List ℕ) where
+  pub file-refused : (q : Question) → refused (number_of q) ≡ load file
+      → Operated file area bytes answer (number_of q) area answer
+  unfolding operate refused
+  file-refused q e = rw (← e) (go (number_of q) (Told.some q))
     where
       go : (q : ℕ) → (q ≡ 0 → ⊥)
-          → let room = records l.config in
-          let o = outcome room (or_else q (verdict room l.config (read_operation bytes) area answer)) l.config
+          → let room = records blank in
+          let o = outcome room (or_else q (verdict room blank (read_operation bytes) area answer)) blank
           (read_operation bytes).1 area answer in
           (q ≡ o.0) × (area ≡ o.1) × (answer ≡ o.2)
       go zero n = absurd (n refl)
       go (suc q) n = (refl, refl, refl)
 
-  pub file-accepted : l.answer ≡ 0 → {room : ℕ} → room ≡ records l.config → {r : ℕ} {s a : List ℕ}
-      → Carried room l.config area bytes answer r s a → Operated file area bytes answer r s a
-  unfolding operate carried
-  file-accepted z k h = rw (← e, z, ← k) (h.0, h.1.0, h.1.1)
+  pub file-accepted : (config : Config) → accepted config ≡ load file → {room : ℕ} → room ≡ records config
+      → {r : ℕ} {s a : List ℕ} → Carried room config area bytes answer r s a → Operated file area bytes answer r s a
+  unfolding operate carried accepted
+  file-accepted config e k h = rw (← e, ← k) (h.0, h.1.0, h.1.1)
 
 -- questions 7 to 23
 module _ (config : Config) (room : ℕ) (area bytes answer : List ℕ) where
-  refused : {n : ℕ} → (n ≡ 0 → ⊥) → verdict room config (read_operation bytes) area answer ≡ n
+  ends : {n : ℕ} → (n ≡ 0 → ⊥) → verdict room config (read_operation bytes) area answer ≡ n
       → Carried room config area bytes answer n area answer
   unfolding carried
-  refused {n} h e = rw e (go n h)
+  ends {n} h e = rw e (go n h)
     where
       go : (q : ℕ) → (q ≡ 0 → ⊥) → let o = outcome room q config (read_operation bytes).1 area answer in
           (q ≡ o.0) × ((area ≡ o.1) × (answer ≡ o.2))
@@ -67,17 +71,17 @@ module _ (config : Config) (room : ℕ) (area bytes answer : List ℕ) where
 
   module _ {t₇ : Bool} (e₇ : t₇ ≡ eqb (length area) (area_length room)) where
     pub no_7 : t₇ ≡ false → Carried room config area bytes answer 7 area answer
-    no_7 h = refused {n = 7} (λ z. absurd (omega (arith, z))) (rw (← e₇, h))
+    no_7 h = ends {n = 7} (λ z. absurd (omega (arith, z))) (rw (← e₇, h))
 
     module _ (y₇ : t₇ ≡ true) where
       pub no_8 : length answer < answer_bytes → Carried room config area bytes answer 8 area answer
-      no_8 h = refused {n = 8} (λ z. absurd (omega (arith, z)))
+      no_8 h = ends {n = 8} (λ z. absurd (omega (arith, z)))
           (rw (← e₇, y₇, lt-leb answer_bytes (length answer) h))
 
       module _ (y₈ : answer_bytes ≤ length answer) {t₉ : Bool} (e₉ : t₉ ≡ well_formed room config (view room area))
         where
           pub no_9 : t₉ ≡ false → Carried room config area bytes answer 9 area answer
-          no_9 h = refused {n = 9} (λ z. absurd (omega (arith, z)))
+          no_9 h = ends {n = 9} (λ z. absurd (omega (arith, z)))
               (rw (← e₇, y₇, le-leb answer_bytes (length answer) y₈, ← e₉, h))
 
           module _ (y₉ : t₉ ≡ true) {q₁₀ : ℕ} {op : Operation} (e₁₀ : q₁₀ ≡ (read_operation bytes).0)
@@ -91,14 +95,14 @@ module _ (config : Config) (room : ℕ) (area bytes answer : List ℕ) where
             or_stop (suc q) rest h = refl
 
             pub no_10 : (q₁₀ ≡ 0 → ⊥) → Carried room config area bytes answer q₁₀ area answer
-            no_10 h = refused h (judgement ∙ or_stop q₁₀ (judged config op (view room area)) h)
+            no_10 h = ends h (judgement ∙ or_stop q₁₀ (judged config op (view room area)) h)
 
             module _ (y₁₀ : q₁₀ ≡ 0) {q : ℕ} (e : q ≡ judged config op (view room area)) where
               last : verdict room config (read_operation bytes) area answer ≡ q
               last = judgement ∙ (ap (λ (n : ℕ). or_else n (judged config op (view room area))) y₁₀ ∙ sym e)
 
               pub no_11 : (q ≡ 0 → ⊥) → Carried room config area bytes answer q area answer
-              no_11 h = refused h last
+              no_11 h = ends h last
 
               pub done : q ≡ 0 → {s a : List ℕ} → s ≡ layout (applied config op (view room area))
                   → a ≡ answered op (family_of op.code) (view room area) answer
@@ -202,14 +206,14 @@ module _ (config : Config) (b : State) (op : Operation) {q : ℕ}
           yes : (q19 config b op f a ≡ true) × (q21 config b op f a ≡ true)
           yes = Asking.both_yes (q19 config b op f a) (q21 config b op f a) (sym eₙ ∙ yₙ)
 
-          -- 20 is the answer, or there is none
-          pub last_20 : {t₂₀ : Bool} → t₂₀ ≡ q20 config b op f a → {n : ℕ} → n ≡ ask 20 t₂₀ 0 → n ≡ judged config op b
-          unfolding rest
-          last_20 {t₂₀} e₂₀ h = h ∙ sym (by_rest ∙ rw (← e₁₈, y₁₈, yes.0, ← e₂₀, ← e₂₂, y₂₂, yes.1))
+          module _ {t₂₀ : Bool} (e₂₀ : t₂₀ ≡ q20 config b op f a) where
+            pub no_20 : t₂₀ ≡ false → 20 ≡ judged config op b
+            unfolding rest
+            no_20 h = sym (by_rest ∙ rw (← e₁₈, y₁₈, yes.0, ← e₂₀, h))
 
-          all_yes : {t₂₀ : Bool} → t₂₀ ≡ q20 config b op f a → t₂₀ ≡ true → 0 ≡ judged config op b
-          unfolding rest
-          all_yes e₂₀ h = sym (by_rest ∙ rw (← e₁₈, y₁₈, yes.0, ← e₂₀, h, ← e₂₂, y₂₂, yes.1))
+            pub all_yes : t₂₀ ≡ true → 0 ≡ judged config op b
+            unfolding rest
+            all_yes h = sym (by_rest ∙ rw (← e₁₈, y₁₈, yes.0, ← e₂₀, h, ← e₂₂, y₂₂, yes.1))
 
           -- a code that 20 is not about
           pub stays : {t : Bool} → t ≡ leaves f → t ≡ false → 0 ≡ judged config op b

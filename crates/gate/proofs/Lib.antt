@@ -3,3 +3,4 @@ pub mod Calling
 pub mod Needed
 pub mod Found
 pub mod Ruling
+mod Told

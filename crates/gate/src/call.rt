@@ -1,27 +1,26 @@
 // One operation call whose configuration was accepted: questions 7 to 23, and then the effect. `room` is how many
 // object records the state area has.
 ghost use Rattle.std.specs.Prelude.{◌≡◌, ◌≤◌, cond, ◌||◌};
+ghost use Rattle.model.specs.Answers.{number_of, answer_of};
 ghost use Rattle.model.specs.Config.{most_objects};
-ghost use Rattle.model.specs.State.{view};
-ghost use Rattle.model.specs.Questions.{ask};
 ghost use Rattle.model.specs.Gate.{judged};
+ghost use Rattle.state.specs.Shown.{shown};
 ghost use Rattle.searches.specs.Ready.{Accepted, Ready, Complete};
 ghost use Rattle.searches.specs.Asking.{stores, leaves, enters};
 ghost use Rattle.gate.specs.Carried.{carried};
 
-use crate::zones::{is_ruled, keeps_green};
+use crate::zones::is_ruled;
 use effect::{ANSWER_BYTES, carry_out};
-use model::{Actor, Config, Family, Operation};
+use green::rule::keeps_rule;
+use model::{Actor, Config, Family, Operation, Question};
 use operation::codes::{actor_of, family_of};
 use operation::read_operation;
 use searches::leaving::{is_leaving, stays_unnamed};
 use searches::next::{follows_confined, is_entering};
 use searches::transfers::{are_described, is_storing};
+use state::area::Area;
 use state::formed::is_formed;
 use state::look::right_length;
-
-// The answer where every question is a yes.
-const ACCEPTED: u8 = 0;
 
 // Questions 18 to 22 are about writes, copies, deactivations and devices that are brought in.
 fn is_searched(f: Family, a: Actor) -> bool
@@ -31,102 +30,79 @@ fn is_searched(f: Family, a: Actor) -> bool
 }
 
 // The question by which an operation is refused for the state that would follow.
-fn next_number(f: Family, a: Actor) -> u8
-    ensures { result ≡ cond (enters f a) 21 19 }
+fn next_question(f: Family, a: Actor) -> Question
+    ensures { number_of result ≡ cond (enters f a) 21 19 }
 {
-    if is_entering(f, a) { 21 } else { 19 }
-}
-
-// 20, or 0.
-fn leaving_number(yes: bool) -> u8
-    ensures { result ≡ ask 20 yes 0 }
-{
-    if yes { ACCEPTED } else { 20 }
-}
-
-// The number of the first of the questions 11 to 23 that is answered with no, or 0. 22 comes before 19 and 20, which
-// are not put where it says no. What 20 and 22 are not about is kept from them: a
-// call would copy the configuration.
-fn judge_all(config: Config, area: &[u8], room: usize, op: Operation) -> u8
-    requires ready { Ready config room area.now }
-    requires complete { Complete op }
-    ensures { result ≡ judged config op (view room area.now) }
-{
-    let q = questions::judge(
-        config.counts,
-        &config.objects.kind,
-        &config.objects.class,
-        area,
-        room,
-        op,
-    );
-    if q != 0 {
-        return q;
+    if is_entering(f, a) {
+        Question::EntersConfined
+    } else {
+        Question::Confined
     }
+}
+
+// Questions 11 to 23. 22 comes before 19 and 20, which are not put where it says no.
+fn judge_all(config: &Config, area: &Area, op: &Operation) -> Result<(), Question>
+    requires ready { Ready config.now area.now.room area.now.bytes.now }
+    requires complete { Complete op.now }
+    ensures { answer_of result ≡ judged config.now op.now (shown area.now) }
+{
+    questions::judge(config, area, op)?;
     let f = family_of(op.code);
     let a = actor_of(op.code);
     if !is_searched(f, a) {
-        return ACCEPTED;
+        return Ok(());
     }
-    if !are_described(config, area, room, op, f, a) {
-        return 18;
+    if !are_described(config, area, op, f, a) {
+        return Err(Question::Described);
     }
-    if is_ruled(area, room, op, f, a) {
-        if !keeps_green(config, area, room, op, f, a) {
-            return 22;
+    if is_ruled(area, op, f, a) {
+        if !keeps_rule(config, area, op, f, a) {
+            return Err(Question::KeepsGreen);
         }
     }
-    if !follows_confined(config, area, room, op, f, a) {
-        return next_number(f, a);
+    if !follows_confined(config, area, op, f, a) {
+        return Err(next_question(f, a));
     }
-    if !is_leaving(f) {
-        return ACCEPTED;
+    if is_leaving(f) {
+        if !stays_unnamed(config, area, op, f, a) {
+            return Err(Question::Unnamed);
+        }
     }
-    leaving_number(stays_unnamed(config, area, room, op, f, a))
+    Ok(())
 }
 
-// The answer; both areas change at answer 0 only.
+// Both areas change where no question is answered with no, and then only.
 pub fn operate_on(
-    config: Config,
+    config: &Config,
     room: usize,
     state: &mut [u8],
     rec: &[u8],
     answer: &mut [u8],
-) -> u32
-    requires accepted { Accepted config }
-    requires objects_le_room { config.counts.objects ≤ room }
+) -> Result<(), Question>
+    requires accepted { Accepted config.now }
+    requires objects_le_room { config.now.counts.objects ≤ room }
     requires room_le_most_objects { room ≤ most_objects }
-    ensures value { result ≡ (carried room config state.old rec.now answer.old).0 }
-    ensures state_after { state.new ≡ (carried room config state.old rec.now answer.old).1 }
-    ensures answer_after { answer.new
-        ≡ (carried room config state.old rec.now answer.old).2 }
+    ensures value { answer_of result ≡ (carried room config.now state.old rec.now answer.old).0 }
+    ensures state_after { state.new ≡ (carried room config.now state.old rec.now answer.old).1 }
+    ensures answer_after { answer.new ≡ (carried room config.now state.old rec.now answer.old).2 }
 {
     if !right_length(&state[..], room) {
-        return 7;
+        return Err(Question::StateLength);
     }
     if answer.len() < ANSWER_BYTES {
-        return 8;
+        return Err(Question::AnswerRoom);
     }
-    if !is_formed(
-        &state[..],
+    let area = Area {
+        bytes: &state[..],
         room,
-        config.counts,
-        &config.objects.kind,
-        &config.objects.class,
-        &config.objects.owner,
-        &config.devices.hardcoded,
-    ) {
-        return 9;
+    };
+    if !is_formed(&area, config) {
+        return Err(Question::WellFormed);
     }
-    let parsed = read_operation(rec);
-    if parsed.answer != 0 {
-        return parsed.answer as u32;
-    }
-    let op = parsed.operation;
-    let refusal = judge_all(config, &state[..], room, op);
-    if refusal != 0 {
-        return refusal as u32;
-    }
-    carry_out(state, room, config, op, answer);
-    0
+    let Some(op) = read_operation(rec) else {
+        return Err(Question::Readable);
+    };
+    judge_all(config, &area, &op)?;
+    carry_out(state, room, config, &op, answer);
+    Ok(())
 }

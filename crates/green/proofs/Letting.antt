@@ -1,104 +1,20 @@
 -- Laws of the stricter question 20, in the form in which the functions' proofs cite them; and that it is the model's.
 -- Assumes nothing.
-use Prim.Native.Nat.{ℕ, zero, suc, ◌+◌, ◌≤◌, ◌<◌}
+use Prim.Native.Nat.{ℕ, zero, suc, ◌≤◌}
 use mathlib.Core.Path.{◌≡◌, refl, sym, ap, ◌∙◌}
 use mathlib.Core.List.{List, [], ◌∷◌}
-use mathlib.Core.Bool.{Bool, true, false, not, cond, ◌&&◌, ◌||◌}
+use mathlib.Core.Bool.{Bool, true, false, not, ◌&&◌, ◌||◌}
 use native.Mathlib.Decide.{ℕ_discrete}
-use native.Mathlib.Omega.{arith}
-use lib.ListN.{length, get_or, set, replicate, get_or-replicate}
-use lib.Seq.{get_or-set_same, get_or-set_other}
+use lib.ListN.{get_or}
 use lib.Dec.{eqb}
 use borrow.Author.Tests.{eq-eqb, ne_eqb, le-leb}
 use Rattle.model.specs.Base.{all, every}
-use Rattle.model.specs.Config.{kind_of, descriptor, Entry, entry_at, entries}
-use Rattle.model.specs.State.{State, green, object_in, held, view}
+use Rattle.model.specs.Config.{kind_of, descriptor, Entry, entries}
+use Rattle.model.specs.State.{State, green, object_in, held}
 use Rattle.model.specs.Questions.{lets_go}
-use Rattle.model.specs.declared.Counts.{Counts}
 use Rattle.model.specs.declared.Config.{Config}
 use Rattle.model.proofs.SameFile.{every-same}
-use Rattle.sound.specs.Sound.{every_to, all_from, value_passes}
-use Rattle.scene.specs.Rules.{holds_value}
-use Rattle.scene.specs.Scene.{AreaOk}
-use Rattle.green.specs.Rule.{spared_by, Spares, goes_by, goes_if}
-
--- an entry, by what is read of it: its object o and that object's mark x
-pub spared_at : (marks table : List ℕ) (at : ℕ) {o x : ℕ} → o ≡ get_or table at 0 → x ≡ get_or marks o 0
-    → not (eqb x 1) ≡ spared_by marks (entry_at table at)
-unfolding spared_by
-spared_at marks table at e h = rw (← e, ← h)
-
--- the table of values, one more
-module _ (count table marks : List ℕ) where
-  pub spares_start : (n : ℕ) → 1 ≤ n → Spares 0 count table marks (replicate n 1)
-  unfolding Spares value_passes
-  spares_start n h v l =
-      let z : v ≡ 0 = omega arith in
-      rw (z, get_or-replicate {A = ℕ} n 0 1 0 (omega arith))
-
-  pub spares_more : (n i : ℕ) (spares : List ℕ) (x : ℕ) (t : Bool) → length spares ≡ n → i + 1 < n
-      → Spares i count table marks spares → t ≡ value_passes (spared_by marks) count table (i + 1) → x ≡ cond t 1 0
-      → Spares (i + 1) count table marks (set spares (i + 1) x)
-  unfolding Spares
-  spares_more n i spares x t long l h e q v k = go (ℕ_discrete v (i + 1))
-    where
-      marked : (s : Bool) → eqb (cond s 1 0) 1 ≡ s
-      marked true = refl
-      marked false = refl
-
-      go : Dec (v ≡ i + 1)
-          → eqb (get_or (set spares (i + 1) x) v 0) 1 ≡ value_passes (spared_by marks) count table v
-      go (yes z) =
-          rw (z, get_or-set_same spares (i + 1) x 0 (omega (arith, long)), q) (marked t ∙ e)
-      go (no z) = rw (get_or-set_other spares (i + 1) v x 0 z) (h v (omega arith))
-
--- a descriptor that stays: by its kind k, its partition q, its mark x and what is known of its value
-module _ (kind : List ℕ) (b : State) (marks spares : List ℕ) (z n : ℕ) {k q : ℕ} (of-kind : k ≡ get_or kind n 0)
-    (place : q ≡ object_in b n) where
-  pub goes_elsewhere : not ((eqb k 1 || eqb k 4) && eqb q z) ≡ true → true ≡ goes_if kind b marks spares z n
-  unfolding goes_if
-  goes_elsewhere h = rw (← of-kind, ← place, h)
-
-  module _ (here : not ((eqb k 1 || eqb k 4) && eqb q z) ≡ false) {x : ℕ} (mark : x ≡ get_or marks n 0) where
-    pub goes_along : x ≡ 1 → true ≡ goes_if kind b marks spares z n
-    unfolding goes_if
-    goes_along h = rw (← of-kind, ← place, here, ← mark, eq-eqb x 1 h)
-
-    pub goes_value : (x ≡ 1 → ⊥) → {v : ℕ} → v ≡ held b n → {y : ℕ} → y ≡ get_or spares v 0
-        → eqb y 1 ≡ goes_if kind b marks spares z n
-    unfolding goes_if
-    goes_value h e g = rw (← of-kind, ← place, here, ← mark, ne_eqb x 1 h, ← e, ← g)
-
--- by the table of values it is as by the values
-module _ (counts : Counts) (kind count table area : List ℕ) (room : ℕ) (ok : AreaOk counts kind area room)
-    (marks spares : List ℕ) (z : ℕ) (told : Spares counts.values count table marks spares) where
-  same_at : (n : ℕ) → 1 ≤ n → n ≤ counts.objects
-      → goes_if kind (view room area) marks spares z n ≡ goes_by kind count table (view room area) marks z n
-  unfolding goes_if goes_by Spares
-  same_at n low high = go (holds_value (get_or kind n 0)) refl
-    where
-      b : State
-      b = view room area
-
-      go : (t : Bool) → holds_value (get_or kind n 0) ≡ t
-          → not (t && eqb (object_in b n) z) || eqb (get_or marks n 0) 1 || eqb (get_or spares (held b n) 0) 1
-          ≡ not (t && eqb (object_in b n) z) || eqb (get_or marks n 0) 1
-          || value_passes (spared_by marks) count table (held b n)
-      go true e = rw (told (held b n) (ok.held_known n (record { low = low; high = high }) e))
-      go false e = refl
-
-  pub by_values : {r : Bool} → r ≡ every_to counts.objects (goes_if kind (view room area) marks spares z)
-      → r ≡ every_to counts.objects (goes_by kind count table (view room area) marks z)
-  unfolding every_to
-  by_values e = e ∙ every-same counts.objects _ _ same_at
-
--- the zone is green, or it is not
-module _ (b : State) (z : ℕ) {g : Bool} (colour : g ≡ green b z) where
-  pub lets_plain : (t : Bool) → not g ≡ true → true ≡ not (green b z) || t
-  lets_plain t h = rw (← colour, h)
-
-  pub lets_green : not g ≡ false → {r t : Bool} → r ≡ t → r ≡ not (green b z) || t
-  lets_green h e = rw (← colour, h) e
+use Rattle.green.specs.Rule.{spared_by, goes_by}
 
 -- it is the model's, for what leaves zone z alone: the objects with a 1 in the table are in that zone
 module _ (config : Config) (b : State) (marks : List ℕ) (concerned : ℕ → Bool)
@@ -118,10 +34,9 @@ module _ (config : Config) (b : State) (marks : List ℕ) (concerned : ℕ → B
   all_true p h [] = refl
   all_true p h (e ∷ l) = rw (h e, all_true p h l)
 
-  value_spares_lem : (v : ℕ) → value_passes (spared_by marks) config.values.count config.values.entries v ≡ spares v
-  unfolding value_passes all_from spared_by entries spares
-  value_spares_lem zero = refl
-  value_spares_lem (suc v) = all_by _ _ (λ e. ap not (marked e.object)) (suc v)
+  value_spares_lem : (v : ℕ) → all (spared_by marks) (entries config v) ≡ spares v
+  unfolding spared_by spares
+  value_spares_lem v = all_by _ _ (λ e. ap not (marked e.object)) v
 
   -- in another zone nothing that leaves is named
   lets_other : (n : ℕ) → (object_in b n ≡ z → ⊥) → (e : Entry) → lets n e ≡ true
@@ -142,7 +57,7 @@ module _ (config : Config) (b : State) (marks : List ℕ) (concerned : ℕ → B
           ap not (sym (eq-eqb (object_in b e.object) (object_in b n) (inside e.object k ∙ sym h)))
 
   abbrev goes : ℕ → Bool
-  goes = goes_by config.objects.kind config.values.count config.values.entries b marks z
+  goes = goes_by config b marks z
 
   object-same : green b z ≡ true → (n : ℕ) → 1 ≤ n → n ≤ config.counts.objects → goes n ≡ lets_go config b concerned n
   unfolding goes_by spares
@@ -179,9 +94,8 @@ module _ (config : Config) (b : State) (marks : List ℕ) (concerned : ℕ → B
           rw (ne_eqb (object_in b n) z e, all_true (lets n) (lets_other n e) (entries config (held b n)))
           (aside k (spares (held b n)) (concerned n) ∙ sym (ended k (green b (object_in b n)) (concerned n)))
 
-  pub zone_same : not (green b z) || every_to config.counts.objects goes
+  pub zone_same : not (green b z) || every config.counts.objects goes
       ≡ every config.counts.objects (lets_go config b concerned)
-  unfolding every_to
   zone_same = go (green b z) refl
     where
       plain : green b z ≡ false → (n : ℕ) → lets_go config b concerned n ≡ true

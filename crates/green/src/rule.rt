@@ -1,285 +1,124 @@
-// Question 22: what is stored in a green zone, and what comes into one, keeps the zone's rule. Of a configuration it
-// looks at the columns that are lent.
-ghost use Rattle.std.specs.Prelude.{◌≡◌, false, ℕ, ◌+◌, ◌*◌, ◌≤◌, ◌<◌, List, length, get_or};
-ghost use Rattle.model.specs.Config.{entry_bytes, entry_at};
-ghost use Rattle.model.specs.State.{area_length, view};
-ghost use Rattle.model.specs.Questions.{zone_of, green_items, q22};
-ghost use Rattle.model.specs.declared.Config.{Config};
-ghost use Rattle.model.specs.declared.Family.TheVariants.{Write, Activate};
-ghost use Rattle.sound.specs.Sound.{far_place, all_from, value_passes};
-ghost use Rattle.questions.specs.Items.{all_below};
-ghost use Rattle.green.specs.Rule.{quiet_by, home_by, green_by, item_by, item_in, Narrow};
-ghost use Rattle.green.specs.Rule.{by_device, ruled_by};
+// Question 22: what is stored in a green zone, and what comes into one, keeps the zone's rule.
+ghost use Rattle.std.specs.Prelude.{◌≡◌, ◌≤◌, ◌<◌};
+ghost use Rattle.model.specs.Config.{entry_at};
+ghost use Rattle.model.specs.Questions.{zone_of, quiet_entry, ringless, green_entry, green_value, green_item};
+ghost use Rattle.model.specs.Questions.{green_items, q22};
+ghost use Rattle.model.specs.declared.Family.TheVariants.{Activate};
+ghost use Rattle.state.specs.Shown.{shown};
+ghost use Rattle.sound.specs.Sound.{far_place};
+ghost use Rattle.green.specs.Rule.{Narrow, by_device};
 
 use model::{
-    Actor, BOTH_MODE, DEVICE_SLOTS, ENTRY_BYTES, ENTRY_SLOTS, Family, HARDCODED_KIND, OBJECT_SLOTS,
-    Operation, TRANSFER_KIND, VALUE_SLOTS, WRITE_MODE, byte_at, entry_place,
+    Actor, BOTH_MODE, Config, Family, HARDCODED_KIND, Operation, TRANSFER_KIND, WRITE_MODE, byte_at,
 };
 use operation::columns::number_of;
-use state::look::{device, driver, is_green, object, value};
+use sound::entries_all;
+use state::area::Area;
 
 // A device acts.
 pub fn is_by_device(a: Actor) -> bool
     ensures { result ≡ by_device a }
 {
-    match a {
-        Actor::Driver => false,
-        Actor::Device => true,
-        Actor::External => false,
-    }
+    matches!(a, Actor::Device)
 }
 
 // The zone in which a write or a copy stores, and which a deactivation leaves.
-pub fn zone_of(area: &[u8], room: usize, op: Operation, a: Actor) -> usize
-    requires { length area.now ≡ area_length room }
-    ensures { result ≡ zone_of (view room area.now) op a }
+pub fn zone_of(area: &Area, op: &Operation, a: Actor) -> usize
+    ensures { result ≡ zone_of (shown area.now) op.now a }
 {
     match a {
-        Actor::Driver => driver(area, room, op.subject) as usize,
-        Actor::Device => device(area, room, op.subject) as usize,
+        Actor::Driver => usize::from(area.driver(op.subject)),
+        Actor::Device => usize::from(area.device(op.subject)),
         Actor::External => op.partition,
     }
 }
 
 // The entry at a place of the table writes no kind 1 object.
-fn is_quiet<'a>(kind: &'a [u8; OBJECT_SLOTS], entries: &'a [u8], at: usize) -> bool
+fn is_quiet(config: &Config, at: usize) -> bool
     requires { at ≤ far_place }
-    ensures { result ≡ quiet_by kind.now (entry_at entries.now at) }
+    ensures { result ≡ quiet_entry config.now (entry_at config.now.values.entries at) }
 {
-    let o = byte_at(entries, at) as usize;
-    if byte_at(kind, o) != TRANSFER_KIND {
-        return true;
-    }
-    let mode = byte_at(entries, at + 1);
-    !((mode == WRITE_MODE) | (mode == BOTH_MODE))
+    let entries = &config.values.entries;
+    let o = usize::from(byte_at(entries, at));
+    byte_at(&config.objects.kind, o) != TRANSFER_KIND
+        || !matches!(byte_at(entries, at + 1), WRITE_MODE | BOTH_MODE)
 }
 
-// An entry names an object of zone p that is not of kind 4; if it may be anywhere, it names what it likes.
-fn is_home<'a>(
-    kind: &'a [u8; OBJECT_SLOTS],
-    entries: &'a [u8],
-    area: &[u8],
-    room: usize,
-    anywhere: bool,
-    p: usize,
-    at: usize,
-) -> bool
-    requires { length area.now ≡ area_length room }
-    ensures { result ≡ home_by kind.now (view room area.now) anywhere p
-        (entry_at entries.now at) }
+// It is such, and names an object of zone p that is not of kind 4.
+fn is_green(config: &Config, area: &Area, p: usize, at: usize) -> bool
+    requires { at ≤ far_place }
+    ensures { result ≡ green_entry config.now (shown area.now) p (entry_at config.now.values.entries at) }
 {
-    if anywhere {
-        return true;
-    }
-    let o = byte_at(entries, at) as usize;
-    let q = object(area, room, o) as usize;
-    (q == p) & (byte_at(kind, o) != HARDCODED_KIND)
+    let o = usize::from(byte_at(&config.values.entries, at));
+    usize::from(area.object(o)) == p
+        && byte_at(&config.objects.kind, o) != HARDCODED_KIND
+        && is_quiet(config, at)
 }
 
-// The k entries from a place of the table on are such.
-fn entries_pass<'a>(
-    kind: &'a [u8; OBJECT_SLOTS],
-    entries: &'a [u8],
-    area: &[u8],
-    room: usize,
-    anywhere: bool,
-    p: usize,
-    from: usize,
-    k: u8,
-) -> bool
-    requires area_len { length area.now ≡ area_length room }
-    requires k_bound { from + entry_bytes * k ≤ far_place }
-    ensures { result ≡ all_from (green_by kind.now (view room area.now) anywhere p) entries.now
-        from k }
+// The entries of value v are such: it may be stored in green zone p.
+fn value_passes(config: &Config, area: &Area, p: usize, v: u8) -> bool
+    ensures { result ≡ green_value config.now (shown area.now) p v }
 {
-    let mut i: u8 = 0;
-    let mut at = from;
-    while i < k {
-        let home = is_home(kind, entries, area, room, anywhere, p, at);
-        let quiet = is_quiet(kind, entries, at);
-        if !(home & quiet) {
-            return false;
-        }
-        at += ENTRY_BYTES;
-        i += 1;
-    }
-    true
+    entries_all(&config.values, v, |at| is_green(config, area, p, at))
 }
 
-// The entries of value v are such. Value 0 has none.
-fn value_passes<'a>(
-    kind: &'a [u8; OBJECT_SLOTS],
-    count: &'a [u8; VALUE_SLOTS],
-    entries: &'a [u8; ENTRY_SLOTS],
-    area: &[u8],
-    room: usize,
-    anywhere: bool,
-    p: usize,
-    v: u8,
-) -> bool
-    requires { length area.now ≡ area_length room }
-    ensures { result ≡ value_passes (green_by kind.now (view room area.now) anywhere p) count.now
-        entries.now v }
+// What item i stores into kind 1 may be stored in green zone p.
+fn item_passes(config: &Config, area: &Area, op: &Operation, f: Family, p: usize, i: usize) -> bool
+    requires narrow { Narrow config.now.objects.kind op.now f }
+    requires listed { i < op.now.count }
+    ensures { result ≡ green_item config.now (shown area.now) op.now f p i }
 {
-    if v == 0 {
-        return true;
-    }
-    let k = byte_at(count, v as usize);
-    entries_pass(kind, entries, area, room, anywhere, p, entry_place(v, 1), k)
-}
-
-// What an item with object o and second number v stores into kind 1 may be stored in green zone p.
-fn item_passes<'a>(
-    kind: &'a [u8; OBJECT_SLOTS],
-    count: &'a [u8; VALUE_SLOTS],
-    entries: &'a [u8; ENTRY_SLOTS],
-    area: &[u8],
-    room: usize,
-    f: Family,
-    p: usize,
-    o: usize,
-    v: usize,
-) -> bool
-    requires area_len { length area.now ≡ area_length room }
-    requires v_bound { f ≡ Write → get_or kind.now o 0 ≡ 1 → v < 256 }
-    ensures { result ≡ item_by kind.now count.now entries.now (view room area.now) f p
-        o v }
-{
+    let kind = &config.objects.kind;
+    let o = number_of(&op.objects, i);
+    let v = number_of(&op.seconds, i);
     match f {
         Family::Write => {
-            if byte_at(kind, o) != TRANSFER_KIND {
-                return true;
-            }
-            value_passes(kind, count, entries, area, room, false, p, v as u8)
+            byte_at(kind, o) != TRANSFER_KIND || value_passes(config, area, p, v as u8)
         }
         Family::Copy => {
-            if v == 0 {
-                return true;
-            }
-            if byte_at(kind, v) != TRANSFER_KIND {
-                return true;
-            }
-            let w = value(area, room, o);
-            value_passes(kind, count, entries, area, room, false, p, w)
+            v == 0
+                || byte_at(kind, v) != TRANSFER_KIND
+                || value_passes(config, area, p, area.value(o))
         }
-        Family::Create => true,
-        Family::Destroy => true,
-        Family::Activate => true,
-        Family::Deactivate => true,
-        Family::Lock => true,
-        Family::Unlock => true,
+        _ => true,
     }
-}
-
-// Every item is such.
-fn items_pass<'a>(
-    kind: &'a [u8; OBJECT_SLOTS],
-    count: &'a [u8; VALUE_SLOTS],
-    entries: &'a [u8; ENTRY_SLOTS],
-    area: &[u8],
-    room: usize,
-    op: Operation,
-    f: Family,
-    p: usize,
-) -> bool
-    requires area_len { length area.now ≡ area_length room }
-    requires narrow { Narrow kind.now op f }
-    ensures { result ≡ all_below op.count
-        (item_in kind.now count.now entries.now (view room area.now) op f
-        p) }
-{
-    let n = op.count;
-    let mut i = 0;
-    while i < n {
-        let o = number_of(&op.objects, i);
-        let v = number_of(&op.seconds, i);
-        if !item_passes(kind, count, entries, area, room, f, p, o, v) {
-            return false;
-        }
-        i += 1;
-    }
-    true
 }
 
 // 22, of a write or a copy: in a green zone every item is such. It is not asked where a device acts.
-fn stores_keep<'a>(
-    kind: &'a [u8; OBJECT_SLOTS],
-    count: &'a [u8; VALUE_SLOTS],
-    entries: &'a [u8; ENTRY_SLOTS],
-    area: &[u8],
-    room: usize,
-    op: Operation,
-    f: Family,
-    a: Actor,
-) -> bool
-    requires area_len { length area.now ≡ area_length room }
-    requires narrow { Narrow kind.now op f }
-    ensures { (m : Config) (hardcoded : List ℕ)
-        → result ≡ green_items (ruled_by m kind.now hardcoded count.now entries.now)
-        (view room area.now) op f a }
+fn stores_keep(config: &Config, area: &Area, op: &Operation, f: Family, a: Actor) -> bool
+    requires { Narrow config.now.objects.kind op.now f }
+    ensures { result ≡ green_items config.now (shown area.now) op.now f a }
 {
     if is_by_device(a) {
         return true;
     }
-    let p = zone_of(area, room, op, a);
-    if !is_green(area, room, p) {
-        return true;
-    }
-    items_pass(kind, count, entries, area, room, op, f, p)
+    let p = zone_of(area, op, a);
+    !area.is_green(p) || (0..op.count).all(|i| item_passes(config, area, op, f, p, i))
+}
+
+// The hardcoded value of device c writes no kind 1 object.
+fn is_ringless(config: &Config, c: usize) -> bool
+    ensures { result ≡ ringless config.now c }
+{
+    let v = byte_at(&config.devices.hardcoded, c);
+    entries_all(&config.values, v, |at| is_quiet(config, at))
 }
 
 // 22, of an activation: into a green zone comes no device whose hardcoded value writes a kind 1 object.
-fn enters_keeping<'a>(
-    kind: &'a [u8; OBJECT_SLOTS],
-    hardcoded: &'a [u8; DEVICE_SLOTS],
-    count: &'a [u8; VALUE_SLOTS],
-    entries: &'a [u8; ENTRY_SLOTS],
-    area: &[u8],
-    room: usize,
-    op: Operation,
-    a: Actor,
-) -> bool
-    requires { length area.now ≡ area_length room }
-    ensures { (m : Config) → result ≡ q22
-        (ruled_by m kind.now hardcoded.now count.now entries.now)
-        (view room area.now) op Activate a }
+fn enters_keeping(config: &Config, area: &Area, op: &Operation, a: Actor) -> bool
+    ensures { result ≡ q22 config.now (shown area.now) op.now Activate a }
 {
-    if !is_by_device(a) {
-        return true;
-    }
-    if !is_green(area, room, op.partition) {
-        return true;
-    }
-    let v = byte_at(hardcoded, op.subject);
-    value_passes(kind, count, entries, area, room, true, 0, v)
+    !is_by_device(a) || !area.is_green(op.partition) || is_ringless(config, op.subject)
 }
 
 // 22, of an operation of any family: of writes and copies by what they store, of activations by what comes in.
-pub fn keeps_rule<'a>(
-    kind: &'a [u8; OBJECT_SLOTS],
-    hardcoded: &'a [u8; DEVICE_SLOTS],
-    count: &'a [u8; VALUE_SLOTS],
-    entries: &'a [u8; ENTRY_SLOTS],
-    area: &[u8],
-    room: usize,
-    op: Operation,
-    f: Family,
-    a: Actor,
-) -> bool
-    requires area_len { length area.now ≡ area_length room }
-    requires narrow { Narrow kind.now op f }
-    ensures { (m : Config) → result ≡ q22
-        (ruled_by m kind.now hardcoded.now count.now entries.now)
-        (view room area.now) op f a }
+pub fn keeps_rule(config: &Config, area: &Area, op: &Operation, f: Family, a: Actor) -> bool
+    requires { Narrow config.now.objects.kind op.now f }
+    ensures { result ≡ q22 config.now (shown area.now) op.now f a }
 {
     match f {
-        Family::Write => stores_keep(kind, count, entries, area, room, op, f, a),
-        Family::Copy => stores_keep(kind, count, entries, area, room, op, f, a),
-        Family::Create => true,
-        Family::Destroy => true,
-        Family::Activate => enters_keeping(kind, hardcoded, count, entries, area, room, op, a),
-        Family::Deactivate => true,
-        Family::Lock => true,
-        Family::Unlock => true,
+        Family::Write | Family::Copy => stores_keep(config, area, op, f, a),
+        Family::Activate => enters_keeping(config, area, op, a),
+        _ => true,
     }
 }

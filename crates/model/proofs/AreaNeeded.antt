@@ -10,7 +10,7 @@ use Rattle.model.specs.ConfigFile.{load}
 use Rattle.model.specs.State.{records, area_length}
 use Rattle.model.specs.Gate.{needed_by, state_bytes, make_fresh, operate}
 use Rattle.model.specs.Rewriting.{kind_unit, kind_of_answer, number_of_answer}
-use Rattle.model.specs.declared.Written.TheVariants.{Length, Refused}
+use Rattle.model.specs.Written.{Length, Refused}
 use Rattle.model.proofs.Accepted.{load_answers}
 use Rattle.model.proofs.Facts.{room_most}
 use Rattle.model.proofs.Calls.{call_answer}

@@ -17,7 +17,7 @@ use Rattle.model.specs.Gate.{or_else, judged, fresh_answer, make_fresh, first_ba
 use Rattle.model.specs.Rewriting.{kind_unit, number_of_answer}
 use Rattle.model.specs.Demand2.{config_in, state_in}
 use Rattle.model.specs.declared.Config.{Config}
-use Rattle.model.specs.declared.Written.TheVariants.{Length, Refused}
+use Rattle.model.specs.Written.{Length, Refused}
 use Rattle.model.proofs.Facts.{room_most}
 use Rattle.model.proofs.Calls.{call_answer}
 use Rattle.model.proofs.Walk.{first_bad_lem, formed_walk}

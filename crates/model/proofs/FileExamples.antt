@@ -16,7 +16,7 @@ use Rattle.model.specs.ConfigWrite.{
   write_area,
 }
 use Rattle.model.specs.Examples.{file_l, file_answer}
-use Rattle.model.specs.declared.Written.TheVariants.{Length, Short}
+use Rattle.model.specs.Written.{Length, Short}
 
 -- N1: file L, loaded and written, into areas of 44, 45 and 46 bytes
 rewritten : file_of (load file_l).config ≡ file_l

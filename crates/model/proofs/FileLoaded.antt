@@ -49,13 +49,13 @@ use Rattle.model.specs.ConfigWrite.{
   in_ranges,
   Trimmed,
 }
-use Rattle.model.specs.declared.Reading.{Reading}
-use Rattle.model.specs.declared.Reading.TheVariants.{At, Refused}
-use Rattle.model.specs.declared.Head.{Head}
-use Rattle.model.specs.declared.Head.TheVariants.{Counted, Stopped}
+use Rattle.model.specs.Reading.{Reading}
+use Rattle.model.specs.Reading.{At, Refused}
+use Rattle.model.specs.Head.{Head}
+use Rattle.model.specs.Head.{Counted, Stopped}
 use Rattle.model.specs.declared.Counts.{Counts}
 use Rattle.model.specs.declared.Config.{Config}
-use Rattle.model.specs.declared.Loaded.{Loaded}
+use Rattle.model.specs.Loaded.{Loaded}
 use Rattle.model.proofs.Lists.{both_true, every_intro}
 use Rattle.model.proofs.NumberBytes.{Bytes}
 use Rattle.model.proofs.GroupsWritten.{

@@ -9,10 +9,10 @@ use borrow.Author.Tests.{lt-ltb, ltb-true, le-leb, leb-true}
 use Rattle.model.specs.Number.{lead, formed, form_to, head_to, number_to}
 use Rattle.model.specs.ConfigFile.{ranged, field_at, field_to}
 use Rattle.model.specs.FileQuestions.{Asked, rest, size, LastByte, RightForm, InRange}
-use Rattle.model.specs.declared.Num.TheVariants.{Got, Bad}
+use Rattle.model.specs.Num.{Got, Bad}
 use Rattle.model.specs.declared.Fault.TheVariants.{Cut, Form}
-use Rattle.model.specs.declared.Field.{Field}
-use Rattle.model.specs.declared.Field.TheVariants.{Value, No}
+use Rattle.model.specs.Field.{Field}
+use Rattle.model.specs.Field.{Value, No}
 use Rattle.model.proofs.Lists.{and_l, and_r, both_true}
 
 -- a field that is a number in its range; a number that is one

@@ -69,12 +69,12 @@ use Rattle.model.specs.ConfigWrite.{
   SameFile,
   Trimmed,
 }
-use Rattle.model.specs.declared.Head.{Head}
-use Rattle.model.specs.declared.Head.TheVariants.{Counted, Stopped}
+use Rattle.model.specs.Head.{Head}
+use Rattle.model.specs.Head.{Counted, Stopped}
 use Rattle.model.specs.declared.Counts.{Counts}
 use Rattle.model.specs.declared.Values.{Values}
 use Rattle.model.specs.declared.Config.{Config}
-use Rattle.model.specs.declared.Loaded.{Loaded}
+use Rattle.model.specs.Loaded.{Loaded}
 use Rattle.model.proofs.Lists.{and_l, and_r, every_at}
 use Rattle.model.proofs.FileRead.{FewCounts, counts_bounded, devices-read, objects-read, values-read}
 use Rattle.model.proofs.NumberBytes.{Here}

@@ -70,3 +70,4 @@ pub mod Demand2Calls
 pub mod FreshAnswers
 pub mod AreaNeeded
 pub mod BadRecord
+pub mod Ranges

@@ -8,8 +8,8 @@ use lib.Dec.{ltb}
 use Rattle.model.specs.Number.{lead, formed, form_to, head_to, number_at, number_to}
 use Rattle.model.specs.NumberMeans.{num_means, meant_head, meant_at}
 use Rattle.model.specs.declared.Fault.TheVariants.{Cut, Form}
-use Rattle.model.specs.declared.Num.{Num}
-use Rattle.model.specs.declared.Num.TheVariants.{Got, Bad}
+use Rattle.model.specs.Num.{Num}
+use Rattle.model.specs.Num.{Got, Bad}
 
 pub number_means : (s : List ℕ) (at : ℕ) → num_means (number_at s at) ≡ meant_at s at
 unfolding number_to head_to form_to meant_head

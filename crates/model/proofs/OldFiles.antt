@@ -6,7 +6,7 @@ use native.Mathlib.Nat.{le_refl}
 use native.Mathlib.Omega.{arith}
 use Rattle.model.specs.Config.{most_objects, latest, first_limits, serial_of}
 use Rattle.model.specs.ConfigFile.{load_to, load}
-use Rattle.model.specs.declared.Loaded.{Loaded}
+use Rattle.model.specs.Loaded.{Loaded}
 use Rattle.model.proofs.Accepted.{load-within, limited_sound}
 use Rattle.model.proofs.WiderFiles.{load-wider}
 

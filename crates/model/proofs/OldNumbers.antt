@@ -23,8 +23,8 @@ use Rattle.model.specs.Number.{
   number_at,
 }
 use Rattle.model.specs.declared.Fault.TheVariants.{Cut, Form}
-use Rattle.model.specs.declared.Num.{Num}
-use Rattle.model.specs.declared.Num.TheVariants.{Got, Bad}
+use Rattle.model.specs.Num.{Num}
+use Rattle.model.specs.Num.{Got, Bad}
 
 abbrev is_got : Num → Bool
 is_got (Got v next) = true

@@ -41,9 +41,9 @@ use Rattle.model.specs.Operation.{
   read_operation,
 }
 use Rattle.model.specs.declared.Fault.TheVariants.{Form}
-use Rattle.model.specs.declared.Num.{Num}
-use Rattle.model.specs.declared.Num.TheVariants.{Got, Bad}
-use Rattle.model.specs.declared.Parse.{Parse}
+use Rattle.model.specs.Num.{Num}
+use Rattle.model.specs.Num.{Got, Bad}
+use Rattle.model.specs.Parse.{Parse}
 use Rattle.model.specs.declared.Operation.{Operation}
 use Rattle.model.specs.declared.Family.{Family}
 use Rattle.model.specs.declared.Family.TheVariants.{

@@ -34,8 +34,8 @@ use Rattle.model.specs.Rewriting.{
   rewrite_file,
 }
 use Rattle.model.specs.declared.Config.{Config}
-use Rattle.model.specs.declared.Written.{Written}
-use Rattle.model.specs.declared.Written.TheVariants.{Length, Refused, Short}
+use Rattle.model.specs.Written.{Written}
+use Rattle.model.specs.Written.{Length, Refused, Short}
 use Rattle.model.proofs.NumberBytes.{Bytes}
 use Rattle.model.proofs.Accepted.{load_answers}
 use Rattle.model.proofs.FileWritten.{writable}

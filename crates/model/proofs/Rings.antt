@@ -28,7 +28,7 @@ use Rattle.model.specs.Gate.{make_fresh, or_else, judged, operate}
 use Rattle.model.specs.Separation.{Call, answers_of, area_after, final}
 use Rattle.model.specs.Demand2.{config_in, operation_in, Entering}
 use Rattle.model.specs.Rings.{Ringless, Never21, NoRings}
-use Rattle.model.specs.declared.Parse.{Parse}
+use Rattle.model.specs.Parse.{Parse}
 use Rattle.model.specs.declared.Family.{Family}
 use Rattle.model.specs.declared.Family.TheVariants.{
   Write,

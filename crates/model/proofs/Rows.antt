@@ -30,11 +30,11 @@ use Rattle.model.specs.ConfigFile.{
 }
 use Rattle.model.specs.ConfigWrite.{rows_from, Filled, row_bytes, rows_bytes, in_row, right_row}
 use Rattle.model.specs.declared.Fault.TheVariants.{Cut, Form}
-use Rattle.model.specs.declared.Num.{Num}
-use Rattle.model.specs.declared.Num.TheVariants.{Got, Bad}
-use Rattle.model.specs.declared.Field.TheVariants.{Value, No}
-use Rattle.model.specs.declared.Reading.{Reading}
-use Rattle.model.specs.declared.Reading.TheVariants.{At, Refused}
+use Rattle.model.specs.Num.{Num}
+use Rattle.model.specs.Num.{Got, Bad}
+use Rattle.model.specs.Field.{Value, No}
+use Rattle.model.specs.Reading.{Reading}
+use Rattle.model.specs.Reading.{At, Refused}
 use Rattle.model.proofs.Lists.{and_l, and_r, both_true}
 use Rattle.model.proofs.NumberBytes.{Bytes, Here, number_read, number-written}
 

@@ -34,14 +34,14 @@ use Rattle.model.specs.ConfigFile.{
 use Rattle.model.specs.State.{records}
 use Rattle.model.specs.Operation.{read_operation}
 use Rattle.model.specs.Gate.{freshened, make_fresh, operated, operate}
-use Rattle.model.specs.declared.Num.{Num}
-use Rattle.model.specs.declared.Num.TheVariants.{Got, Bad}
-use Rattle.model.specs.declared.Field.{Field}
-use Rattle.model.specs.declared.Field.TheVariants.{Value, No}
-use Rattle.model.specs.declared.Head.{Head}
-use Rattle.model.specs.declared.Head.TheVariants.{Counted, Stopped}
+use Rattle.model.specs.Num.{Num}
+use Rattle.model.specs.Num.{Got, Bad}
+use Rattle.model.specs.Field.{Field}
+use Rattle.model.specs.Field.{Value, No}
+use Rattle.model.specs.Head.{Head}
+use Rattle.model.specs.Head.{Counted, Stopped}
 use Rattle.model.specs.declared.Counts.{Counts}
-use Rattle.model.specs.declared.Loaded.{Loaded}
+use Rattle.model.specs.Loaded.{Loaded}
 use Rattle.model.proofs.Lists.{and_l, both_true}
 use Rattle.model.proofs.Accepted.{HeadTold, counts-told, groups_answered, head_latest, load-within}
 use Rattle.model.proofs.WiderFiles.{load-wider}

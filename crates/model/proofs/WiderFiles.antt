@@ -49,18 +49,18 @@ use Rattle.model.specs.ConfigFile.{
   load_to,
 }
 use Rattle.model.specs.declared.Fault.TheVariants.{Cut, Form}
-use Rattle.model.specs.declared.Num.{Num}
-use Rattle.model.specs.declared.Num.TheVariants.{Got, Bad}
-use Rattle.model.specs.declared.Field.TheVariants.{Value, No}
-use Rattle.model.specs.declared.Reading.{Reading}
-use Rattle.model.specs.declared.Reading.TheVariants.{At, Refused}
-use Rattle.model.specs.declared.Head.{Head}
-use Rattle.model.specs.declared.Head.TheVariants.{Counted, Stopped}
+use Rattle.model.specs.Num.{Num}
+use Rattle.model.specs.Num.{Got, Bad}
+use Rattle.model.specs.Field.{Value, No}
+use Rattle.model.specs.Reading.{Reading}
+use Rattle.model.specs.Reading.{At, Refused}
+use Rattle.model.specs.Head.{Head}
+use Rattle.model.specs.Head.{Counted, Stopped}
 use Rattle.model.specs.declared.Counts.{Counts}
 use Rattle.model.specs.declared.Objects.{Objects}
 use Rattle.model.specs.declared.Devices.{Devices}
 use Rattle.model.specs.declared.Values.{Values}
-use Rattle.model.specs.declared.Loaded.{Loaded}
+use Rattle.model.specs.Loaded.{Loaded}
 use Rattle.model.proofs.Lists.{and_l, and_r, both_true}
 use Rattle.model.proofs.OldNumbers.{still_read}
 

@@ -41,8 +41,8 @@ use Rattle.model.specs.declared.Objects.{Objects}
 use Rattle.model.specs.declared.Devices.{Devices}
 use Rattle.model.specs.declared.Values.{Values}
 use Rattle.model.specs.declared.Config.{Config}
-use Rattle.model.specs.declared.Written.{Written}
-use Rattle.model.specs.declared.Written.TheVariants.{Length, Refused, Short}
+use Rattle.model.specs.Written.{Written}
+use Rattle.model.specs.Written.{Length, Refused, Short}
 
 -- N1: what stands for each of the n numbers after i, in the order of the file
 unfoldable pub rows_from : {A : Type 0} → (ℕ → List A) → ℕ → ℕ → List A

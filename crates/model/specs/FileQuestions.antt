@@ -42,9 +42,9 @@ use Rattle.model.specs.ConfigFile.{
   paired,
   restrained,
 }
-use Rattle.model.specs.declared.Reading.TheVariants.{At}
-use Rattle.model.specs.declared.Head.{Head}
-use Rattle.model.specs.declared.Head.TheVariants.{Counted, Stopped}
+use Rattle.model.specs.Reading.{At}
+use Rattle.model.specs.Head.{Head}
+use Rattle.model.specs.Head.{Counted, Stopped}
 use Rattle.model.specs.declared.Counts.{Counts}
 use Rattle.model.specs.declared.Objects.{Objects}
 use Rattle.model.specs.declared.Devices.{Devices}

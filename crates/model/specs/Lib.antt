@@ -1,3 +1,10 @@
+pub mod Num
+pub mod Field
+pub mod Reading
+pub mod Head
+pub mod Loaded
+pub mod Written
+pub mod Parse
 pub mod Base
 pub mod Number
 pub mod Config
@@ -25,3 +32,4 @@ pub mod NumberMeans
 pub mod FileQuestions
 pub mod Demand2
 pub mod Rings
+pub mod Answers

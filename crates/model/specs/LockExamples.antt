@@ -4,7 +4,7 @@ use Rattle.model.specs.State.{lock_place, room_for}
 use Rattle.model.specs.Older.{no_locks, older_length}
 use Rattle.model.specs.Separation.{area_after}
 use Rattle.model.specs.Examples.{file_l, calling, fresh_l, session, bad_on}
-use Rattle.model.specs.declared.Written.TheVariants.{Length, Refused}
+use Rattle.model.specs.Written.{Length, Refused}
 
 -- document 02, N6: a session with locks over file L
 pub lock-session : session

@@ -2,8 +2,8 @@
 use Rattle.std.specs.Prelude.{ℕ, ◌+◌, List, [], ◌∷◌, cond, length, drop, ltb}
 use Rattle.model.specs.Number.{lead, value_of, formed}
 use Rattle.model.specs.declared.Fault.TheVariants.{Cut, Form}
-use Rattle.model.specs.declared.Num.{Num}
-use Rattle.model.specs.declared.Num.TheVariants.{Got, Bad}
+use Rattle.model.specs.Num.{Num}
+use Rattle.model.specs.Num.{Got, Bad}
 
 -- document 01, questions 1 and 2, for each case of the reader's answer: the number of the question that is answered no,
 -- 0 where there is none; and the values, the number and the place after it

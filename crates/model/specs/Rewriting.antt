@@ -4,8 +4,8 @@ use Rattle.model.specs.ConfigFile.{load}
 use Rattle.model.specs.ConfigWrite.{file_of, write_answer, write_area}
 use Rattle.model.specs.Office.{most_file, long_row, line_row}
 use Rattle.model.specs.declared.Config.{Config}
-use Rattle.model.specs.declared.Written.{Written}
-use Rattle.model.specs.declared.Written.TheVariants.{Length, Refused, Short}
+use Rattle.model.specs.Written.{Written}
+use Rattle.model.specs.Written.{Length, Refused, Short}
 
 -- N1, 'For C': an answer that has a kind is kind * 2^32 + number: 0 done, 1 refused, 2 too short
 abbrev pub kind_unit : ℕ

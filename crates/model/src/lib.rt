@@ -4,6 +4,10 @@
 
 ghost use Rattle.std.specs.Prelude.{◌≡◌, ◌<◌, get_or};
 ghost use Rattle.model.specs.Config.{entry_place};
+ghost use Rattle.model.specs.ConfigFile.{num_question};
+ghost use Rattle.model.specs.Num.{Bad};
+ghost use Rattle.model.specs.declared.Unwritten.TheVariants.{Refused};
+ghost use Rattle.model.specs.Answers.{number_of};
 
 // The limits of a configuration (document 01, 'Line file').
 pub const MOST_DRIVERS: u8 = 16;
@@ -85,30 +89,49 @@ pub enum Fault {
     Form,
 }
 
-// The number at a place, with the place after it.
+// The question that is answered with no where something is refused. Each is named for what it asks, and has the
+// paper's number.
 #[derive(Clone, Copy)]
-pub enum Num {
-    Got(usize, usize),
-    Bad(Fault),
+pub enum Question {
+    // Of the file's numbers, of what is left over behind them, and of the whole file.
+    LastByte = 1,
+    ShortestForm = 2,
+    InRange = 3,
+    NothingLeft = 4,
+    Paired = 5,
+    Restrained = 6,
+    // Of the areas that a call is lent.
+    StateLength = 7,
+    AnswerRoom = 8,
+    WellFormed = 9,
+    // Of an operation: its bytes, its names and its places.
+    Readable = 10,
+    Named = 11,
+    NamedOnce = 12,
+    KindsFit = 13,
+    StatusFits = 14,
+    LeftEmpty = 15,
+    ActivityFits = 16,
+    Placed = 17,
+    // Of what devices reach.
+    Described = 18,
+    Confined = 19,
+    Unnamed = 20,
+    EntersConfined = 21,
+    // Of green zones, and of locks.
+    KeepsGreen = 22,
+    LockFits = 23,
 }
 
-// A number of the configuration file in its field's range, with the place after it; or the question, 1 to 3, that it
-// answers with no.
+// Why a configuration was not written: the question that it answers with no, or the length that the area would need.
 #[derive(Clone, Copy)]
-pub enum Field {
-    Value(u8, usize),
-    No(u8),
+pub enum Unwritten {
+    Refused(Question),
+    Short(usize),
 }
 
-// How far the file is read: up to a place; or the question that ended it.
-#[derive(Clone, Copy)]
-pub enum Reading {
-    At(usize),
-    Refused(u8),
-}
-
-// How many of each there are, and the edition of the file. This is handed on in every search, and so is two words of 32
-// bits: with five bytes a dense search took 9 % more.
+// How many of each there are, and the edition of the file. The readers of a file hand it on by value, in two words of
+// 32 bits.
 #[derive(Clone, Copy)]
 pub struct Counts {
     pub drivers: u8,
@@ -116,13 +139,6 @@ pub struct Counts {
     pub objects: u8,
     pub values: u8,
     pub edition: u32,
-}
-
-// The counts, with the place after them; or the question that ended the reading.
-#[derive(Clone, Copy)]
-pub enum Head {
-    Counted(Counts, usize),
-    Stopped(u8),
 }
 
 // Columns by the number of the object, device or value; place 0 names none.
@@ -153,22 +169,6 @@ pub struct Config {
     pub objects: Objects,
     pub devices: Devices,
     pub values: Values,
-}
-
-// 0 and the configuration; or the first question that is answered with no, beside a blank configuration.
-#[derive(Clone, Copy)]
-pub struct Loaded {
-    pub answer: u8,
-    pub config: Config,
-}
-
-// An answer that has a kind. Of a configuration that was to be written: the length of its file; the question that it
-// answers with no; or the length that the area would need. Other calls tell another number in place of the first.
-#[derive(Clone, Copy)]
-pub enum Written {
-    Length(usize),
-    Refused(u8),
-    Short(usize),
 }
 
 // An operation taken apart (document 01: operation record). Item i, from 0, has its object, its second number (a value
@@ -206,12 +206,41 @@ pub enum Actor {
     External,
 }
 
-// An operation read up to a place: 0 and the operation so far, or 10.
-#[derive(Clone, Copy)]
-pub struct Parse {
-    pub answer: u8,
-    pub at: usize,
-    pub operation: Operation,
+impl Question {
+    // The number of the question in the paper, and in the answer to a caller in C.
+    pub fn number(self) -> u8
+        ensures { result ≡ number_of self }
+    {
+        self as u8
+    }
+}
+
+impl Fault {
+    // The question that bytes with such a fault answer with no.
+    pub fn question(self) -> Question
+        ensures { number_of result ≡ num_question (Bad self) }
+    {
+        match self {
+            Fault::Cut => Question::LastByte,
+            Fault::Form => Question::ShortestForm,
+        }
+    }
+}
+
+impl From<Fault> for Question {
+    ghost from_gives = { λ f q. number_of q ≡ num_question (Bad f) };
+
+    fn from(fault: Fault) -> Question {
+        fault.question()
+    }
+}
+
+impl From<Question> for Unwritten {
+    ghost from_gives = { λ q u. u ≡ Refused q };
+
+    fn from(question: Question) -> Unwritten {
+        Unwritten::Refused(question)
+    }
 }
 
 // Where entry j, from 1, of value v begins in the table of entries.
@@ -221,16 +250,9 @@ pub fn entry_place(v: u8, j: u8) -> usize
     ENTRY_BYTES * ((MOST_ENTRIES as usize) * (v as usize) + (j as usize))
 }
 
-// A byte as a place of a table or a part of a number.
-pub fn wide(b: u8) -> usize
-    ensures { (result ≡ b) × (result < 256) }
-{
-    b as usize
-}
-
 // What a column has at place i, and 0 past its end.
 pub fn byte_at(column: &[u8], i: usize) -> u8
     ensures { result ≡ get_or column.now i 0 }
 {
-    if i < column.len() { column[i] } else { 0 }
+    column.get(i).copied().unwrap_or(0)
 }

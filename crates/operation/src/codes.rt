@@ -3,10 +3,11 @@ ghost use Rattle.std.specs.Prelude.{◌≡◌};
 ghost use Rattle.model.specs.Operation.{family_of, actor_of};
 ghost use Rattle.model.specs.Operation.{partitioning, activating, deactivating, after_code};
 ghost use Rattle.operation.specs.Elements.{before_elements, counted};
+ghost use Rattle.operation.specs.Reader.{read_to};
 
-use crate::fields::{count_at, number_at};
-use crate::items::{Element, go_on, read_elements, stop, with_head};
-use model::{Actor, Family, Num, Operation, Parse};
+use crate::items::{Element, read_element, with_head};
+use crate::reader::Reader;
+use model::{Actor, Family, Operation};
 
 // What a code does. (Question 10 lets no code 0 by.)
 pub fn family_of(code: usize) -> Family
@@ -30,9 +31,7 @@ pub fn actor_of(code: usize) -> Actor
 {
     match code {
         1 | 3 | 7 | 10 => Actor::Driver,
-        2 | 4 | 8 | 11 => Actor::Device,
-        14 => Actor::Device,
-        15 => Actor::Device,
+        2 | 4 | 8 | 11 | 14 | 15 => Actor::Device,
         _ => Actor::External,
     }
 }
@@ -43,82 +42,70 @@ fn before_elements(e: Element, code: usize, x: usize, n: usize) -> Operation
     ensures { result ≡ before_elements e code x n }
 {
     match e {
-        Element::Item => with_head(code, x, 0, n),
-        Element::Pair => with_head(code, x, 0, n),
+        Element::Item | Element::Pair => with_head(code, x, 0, n),
         Element::Object => with_head(code, 0, x, n),
     }
 }
 
 // Codes 1 and 2, a write, 3 and 4, a read, 9 and 12, external objects: a number, a count, the elements.
-fn read_counted(s: &[u8], e: Element, code: usize, at: usize) -> Parse
-    ensures { result ≡ counted e code s.now at }
+#[tactic(auto, using(crate::proofs::Parsing::turns_laws), unfolding(model::specs::Operation::taken))]
+fn read_counted(r: &mut Reader, e: Element, code: usize) -> Option<Operation>
+    ensures value { read_to result r.new.at ≡ counted e code r.old.src.now r.old.at }
+    ensures src { r.new.src ≡ r.old.src }
 {
-    let f = number_at(s, at);
-    let Num::Got(x, a) = f else {
-        return stop();
-    };
-    let g = count_at(s, a);
-    let Num::Got(n, b) = g else {
-        return stop();
-    };
-    let op = before_elements(e, code, x, n);
-    read_elements(s, e, n, b, op)
+    let x = r.number()?;
+    let n = r.count()?;
+    let mut op = before_elements(e, code, x, n);
+    for i in 0..n {
+        read_element(r, e, i, &mut op)?;
+    }
+    Some(op)
 }
 
 // Codes 5, 6 and 13: the partition to create or destroy.
-fn read_partition(s: &[u8], code: usize, at: usize) -> Parse
-    ensures { result ≡ partitioning code s.now at }
+#[tactic(auto, unfolding(model::specs::Operation::partitioning_by, model::specs::Operation::taken))]
+fn read_partition(r: &mut Reader, code: usize) -> Option<Operation>
+    ensures value { read_to result r.new.at ≡ partitioning code r.old.src.now r.old.at }
+    ensures src { r.new.src ≡ r.old.src }
 {
-    let f = number_at(s, at);
-    let Num::Got(p, next) = f else {
-        return stop();
-    };
-    let op = with_head(code, 0, p, 0);
-    go_on(next, op)
+    let partition = r.number()?;
+    Some(with_head(code, 0, partition, 0))
 }
 
 // Codes 7 and 8, activation: driver or device, partition.
-fn read_activation(s: &[u8], code: usize, at: usize) -> Parse
-    ensures { result ≡ activating code s.now at }
+#[tactic(auto, unfolding(model::specs::Operation::activating_by, model::specs::Operation::taken))]
+fn read_activation(r: &mut Reader, code: usize) -> Option<Operation>
+    ensures value { read_to result r.new.at ≡ activating code r.old.src.now r.old.at }
+    ensures src { r.new.src ≡ r.old.src }
 {
-    let f = number_at(s, at);
-    let Num::Got(subject, a) = f else {
-        return stop();
-    };
-    let g = number_at(s, a);
-    let Num::Got(p, next) = g else {
-        return stop();
-    };
-    let op = with_head(code, subject, p, 0);
-    go_on(next, op)
+    let subject = r.number()?;
+    let partition = r.number()?;
+    Some(with_head(code, subject, partition, 0))
 }
 
 // Codes 10 and 11, deactivation: driver or device. Codes 14 and 15, locking and unlocking: device.
-fn read_deactivation(s: &[u8], code: usize, at: usize) -> Parse
-    ensures { result ≡ deactivating code s.now at }
+#[tactic(auto, unfolding(model::specs::Operation::deactivating_by, model::specs::Operation::taken))]
+fn read_deactivation(r: &mut Reader, code: usize) -> Option<Operation>
+    ensures value { read_to result r.new.at ≡ deactivating code r.old.src.now r.old.at }
+    ensures src { r.new.src ≡ r.old.src }
 {
-    let f = number_at(s, at);
-    let Num::Got(subject, next) = f else {
-        return stop();
-    };
-    let op = with_head(code, subject, 0, 0);
-    go_on(next, op)
+    let subject = r.number()?;
+    Some(with_head(code, subject, 0, 0))
 }
 
 // What follows the code; an unknown one is refused.
-pub(crate) fn arguments(s: &[u8], code: usize, at: usize) -> Parse
-    ensures { result ≡ after_code s.now code at }
+#[tactic(auto, unfolding(model::specs::Operation::after_code_by, model::specs::Operation::only))]
+pub(crate) fn arguments(r: &mut Reader, code: usize) -> Option<Operation>
+    ensures value { read_to result r.new.at ≡ after_code r.old.src.now code r.old.at }
+    ensures src { r.new.src ≡ r.old.src }
 {
     match code {
-        1..=2 => read_counted(s, Element::Item, code, at),
-        3..=4 => read_counted(s, Element::Pair, code, at),
-        5..=6 => read_partition(s, code, at),
-        7..=8 => read_activation(s, code, at),
-        9 | 12 => read_counted(s, Element::Object, code, at),
-        10..=11 => read_deactivation(s, code, at),
-        13 => read_partition(s, code, at),
-        14 => read_deactivation(s, code, at),
-        15 => read_deactivation(s, code, at),
-        _ => stop(),
+        1..=2 => read_counted(r, Element::Item, code),
+        3..=4 => read_counted(r, Element::Pair, code),
+        5..=6 | 13 => read_partition(r, code),
+        7..=8 => read_activation(r, code),
+        9 | 12 => read_counted(r, Element::Object, code),
+        10..=11 | 14..=15 => read_deactivation(r, code),
+        _ => None,
     }
 }

@@ -44,6 +44,9 @@ laid_one b at [] h = absurd (not-suc-le-zero h)
 laid_one b zero (o ∷ out) h = ap (λ (r : List ℕ). b ∷ r) (laid_nil zero out)
 laid_one b (suc at) (o ∷ out) h = ap (λ (r : List ℕ). o ∷ r) (laid_one b at out (le_of_suc-le-suc h))
 
+-- what the check reads of a byte, where there is room for it and where there is none
+pub ruleset one_byte = (laid_one, laid_full)
+
 -- a place within the area
 min_by : (u : List ℕ) (at : ℕ) (out : List ℕ) (k : ℕ) → k ≡ min at (length out) → Dec (at ≤ length out)
     → laid u k out ≡ laid u at out
@@ -107,15 +110,6 @@ module _ (at : ℕ) (out : List ℕ) where
         k.1 ∙ ap (laid u p) h.1 ∙ laid_then t u at out p h.0,
       )
 
-  -- a byte, where there is room and where there is none
-  pub put_full : (b : ℕ) → length out ≤ at → Put (b ∷ []) at out (length out) out
-  unfolding reaches
-  put_full b h = (omega arith, sym (laid_full (b ∷ []) at out h))
-
-  pub put_one : (b : ℕ) → at < length out → Put (b ∷ []) at out (at + 1) (set out at b)
-  unfolding reaches
-  put_one b h = (omega arith, sym (laid_one b at out h))
-
   -- nothing, at a place within the area
   pub put_nil : at ≤ length out → Put [] at out at out
   unfolding reaches
@@ -133,13 +127,13 @@ module _ (at : ℕ) (out : List ℕ) where
 
   -- a number: its last digit d, after the others where there are any
   module _ (n d : ℕ) (e : d ≡ digit (n % 10)) {r : ℕ} {out' : List ℕ} where
-    pub put-digit : n < 10 → Put (d ∷ []) at out r out' → Put (decimal n) at out r out'
-    put-digit h p =
+    pub put_digit : n < 10 → Put (d ∷ []) at out r out' → Put (decimal n) at out r out'
+    put_digit h p =
         subst (λ (t : List ℕ). Put t at out r out') (ap (λ (x : ℕ). x ∷ []) e ∙ sym (decimal_one n h)) p
 
-    pub put-digits : 10 ≤ n → {p : ℕ} {out₁ : List ℕ} → Put (decimal (n / 10)) at out p out₁
+    pub put_digits : 10 ≤ n → {p : ℕ} {out₁ : List ℕ} → Put (decimal (n / 10)) at out p out₁
         → Put (d ∷ []) p out₁ r out' → Put (decimal n) at out r out'
-    put-digits h q k =
+    put_digits h q k =
         subst (λ (t : List ℕ). Put t at out r out')
         (ap (λ (x : ℕ). decimal (n / 10) ++ x ∷ []) e ∙ sym (decimal_more n h))
         (then (decimal (n / 10)) (d ∷ []) q k)

@@ -1,5 +1,4 @@
-// Questions 11 to 17 and 23 of an operation, over a configuration and a state area. `room` is how many object records
-// the area has.
+// Questions 11 to 17 and 23 of an operation, over a configuration and a state area.
 
 #![tactic(auto)]
 
@@ -7,33 +6,23 @@ mod lookups;
 mod names;
 mod places;
 
-ghost use Rattle.std.specs.Prelude.{◌≡◌, length};
-ghost use Rattle.model.specs.State.{area_length, view};
+ghost use Rattle.std.specs.Prelude.{◌≡◌};
+ghost use Rattle.model.specs.Answers.{answer_of};
 ghost use Rattle.model.specs.Operation.{family_of, actor_of};
-ghost use Rattle.model.specs.declared.Config.{Config};
-ghost use Rattle.questions.specs.Items.{judged_by, first_no};
+ghost use Rattle.state.specs.Shown.{shown};
+ghost use Rattle.questions.specs.Items.{first_no};
 
-use model::{Counts, Operation};
+use model::{Config, Operation, Question};
+use operation::codes;
+use state::area::Area;
 
-// The number of the first of the questions 11 to 17 and 23 that is answered with no, or 0. Of a configuration they look
-// at the counts, kinds and classes.
-pub fn judge<'a>(
-    counts: Counts,
-    kind: &'a [u8],
-    class: &'a [u8],
-    area: &[u8],
-    room: usize,
-    op: Operation,
-) -> u8
-    requires { length area.now ≡ area_length room }
-    ensures { (m : Config) → result ≡ first_no (judged_by m counts kind.now class.now)
-        (view room area.now) op (family_of op.code) (actor_of op.code) 0 }
+// The first of the questions 11 to 17 and 23 that is answered with no, if one is.
+pub fn judge(config: &Config, area: &Area, op: &Operation) -> Result<(), Question>
+    ensures { answer_of result ≡ first_no config.now (shown area.now) op.now
+        (family_of op.now.code) (actor_of op.now.code) 0 }
 {
-    let f = operation::codes::family_of(op.code);
-    let a = operation::codes::actor_of(op.code);
-    let q = names::judge_names(counts, kind, class, op, f, a);
-    if q != 0 {
-        return q;
-    }
-    places::judge_places(area, room, op, f, a)
+    let f = codes::family_of(op.code);
+    let a = codes::actor_of(op.code);
+    names::judge_names(config, op, f, a)?;
+    places::judge_places(area, op, f, a)
 }

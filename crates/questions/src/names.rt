@@ -1,201 +1,130 @@
 // Questions 11, 12 and 13: what an operation names, by the configuration.
-ghost use Rattle.std.specs.Prelude.{◌≡◌};
-ghost use Rattle.model.specs.declared.Config.{Config};
-ghost use Rattle.questions.specs.Items.{all_below, actor_named, partition_named, named, item_named};
-ghost use Rattle.questions.specs.Items.{changed_in, apart, fits, item_fitting, judged_by, names_no};
+ghost use Rattle.std.specs.Prelude.{◌≡◌, not, ◌||◌, get_or};
+ghost use Rattle.model.specs.Answers.{answer_of};
+ghost use Rattle.model.specs.Base.{below};
+ghost use Rattle.model.specs.Config.{from1to};
+ghost use Rattle.model.specs.State.{most_partition};
+ghost use Rattle.model.specs.Questions.{actor_exists, names_partition, item_exists, q11, changed, q12, item_fits, q13};
+ghost use Rattle.questions.specs.Items.{apart, names_no};
 
-use crate::lookups::{ask, from_1_to};
+use crate::lookups::{ask, from_1_to, names_partition};
 use model::{
-    Actor, Counts, EXTERNAL_CLASS, Family, HARDCODED_KIND, Operation, TRANSFER_KIND, byte_at,
+    Actor, Config, EXTERNAL_CLASS, Family, HARDCODED_KIND, Operation, Question, TRANSFER_KIND,
+    byte_at,
 };
 use operation::columns::number_of;
 use state::MOST_PARTITION;
 
 // The driver or device s exists, where the code names one.
-fn actor_named(counts: Counts, a: Actor, s: usize) -> bool
-    ensures { result ≡ actor_named counts a s }
+fn actor_exists(config: &Config, a: Actor, s: usize) -> bool
+    ensures { result ≡ actor_exists config.now a s }
 {
     match a {
-        Actor::Driver => from_1_to(s, counts.drivers),
-        Actor::Device => from_1_to(s, counts.devices),
+        Actor::Driver => from_1_to(s, config.counts.drivers),
+        Actor::Device => from_1_to(s, config.counts.devices),
         Actor::External => true,
     }
 }
 
 // Partition p is 1 to 63, where the code names one.
 fn partition_named(f: Family, a: Actor, p: usize) -> bool
-    ensures { result ≡ partition_named f a p }
+    ensures { result ≡ (not (names_partition f a) || from1to p most_partition) }
 {
-    match f {
-        Family::Write => true,
-        Family::Copy => true,
-        Family::Create => from_1_to(p, MOST_PARTITION),
-        Family::Destroy => from_1_to(p, MOST_PARTITION),
-        Family::Activate => from_1_to(p, MOST_PARTITION),
-        Family::Deactivate => match a {
-            Actor::Driver => true,
-            Actor::Device => true,
-            Actor::External => from_1_to(p, MOST_PARTITION),
-        },
-        Family::Lock => true,
-        Family::Unlock => true,
-    }
+    !names_partition(f, a) || from_1_to(p, MOST_PARTITION)
 }
 
-// An item with object o, second number v and form names what exists.
-fn item_named(counts: Counts, f: Family, o: usize, v: usize, form: usize) -> bool
-    ensures { result ≡ named counts f o v form }
+// Item i names what exists.
+fn item_exists(config: &Config, op: &Operation, f: Family, i: usize) -> bool
+    ensures { result ≡ item_exists config.now op.now f i }
 {
-    let object = from_1_to(o, counts.objects);
+    let object = from_1_to(number_of(&op.objects, i), config.counts.objects);
+    let v = number_of(&op.seconds, i);
     match f {
-        Family::Write => object & ((form == 1) | (v <= (counts.values as usize))),
-        Family::Copy => object & ((v == 0) | from_1_to(v, counts.objects)),
-        Family::Create => true,
-        Family::Destroy => true,
-        Family::Activate => object,
-        Family::Deactivate => object,
-        Family::Lock => true,
-        Family::Unlock => true,
+        Family::Write => {
+            object && (number_of(&op.forms, i) == 1 || v <= usize::from(config.counts.values))
+        }
+        Family::Copy => object && (v == 0 || from_1_to(v, config.counts.objects)),
+        Family::Activate | Family::Deactivate => object,
+        _ => true,
     }
 }
 
 // Every item does.
-fn items_named<'a>(
-    counts: Counts,
-    f: Family,
-    objects: &'a [u32],
-    seconds: &'a [u32],
-    forms: &'a [u32],
-    n: usize,
-) -> bool
-    ensures { result ≡ all_below n (item_named counts f objects.now seconds.now forms.now) }
+fn items_exist(config: &Config, op: &Operation, f: Family) -> bool
+    ensures { result ≡ below op.now.count (item_exists config.now op.now f) }
 {
-    let mut i = 0;
-    while i < n {
-        let o = number_of(objects, i);
-        let v = number_of(seconds, i);
-        let form = number_of(forms, i);
-        if !item_named(counts, f, o, v, form) {
-            return false;
-        }
-        i += 1;
-    }
-    true
+    (0..op.count).all(|i| item_exists(config, op, f, i))
+}
+
+// 11: every driver, device, object and value named exists, and every partition is 1 to 63.
+fn all_exist(config: &Config, op: &Operation, f: Family, a: Actor) -> bool
+    ensures { result ≡ q11 config.now op.now f a }
+{
+    actor_exists(config, a, op.subject)
+        && partition_named(f, a, op.partition)
+        && items_exist(config, op, f)
 }
 
 // The object that item i changes or moves.
-fn changed_at<'a>(objects: &'a [u32], seconds: &'a [u32], f: Family, i: usize) -> usize
-    ensures { result ≡ changed_in objects.now seconds.now f i }
+fn changed(op: &Operation, f: Family, i: usize) -> usize
+    ensures { result ≡ changed op.now f i }
 {
     match f {
-        Family::Write => number_of(objects, i),
-        Family::Copy => number_of(seconds, i),
-        Family::Create => 0,
-        Family::Destroy => 0,
-        Family::Activate => number_of(objects, i),
-        Family::Deactivate => number_of(objects, i),
-        Family::Lock => 0,
-        Family::Unlock => 0,
+        Family::Write | Family::Activate | Family::Deactivate => number_of(&op.objects, i),
+        Family::Copy => number_of(&op.seconds, i),
+        _ => 0,
     }
 }
 
 // Item i changes no object that an item before it changes; destination 0 may be repeated.
-fn item_apart<'a>(objects: &'a [u32], seconds: &'a [u32], f: Family, i: usize) -> bool
-    ensures { result ≡ apart objects.now seconds.now f i }
+fn item_apart(op: &Operation, f: Family, i: usize) -> bool
+    ensures { result ≡ apart op.now f i }
 {
-    let x = changed_at(objects, seconds, f, i);
-    let mut j = 0;
-    while j < i {
-        let y = changed_at(objects, seconds, f, j);
-        let differ = (x == 0) | (y != x);
-        if !differ {
-            return false;
-        }
-        j += 1;
-    }
-    true
+    let x = changed(op, f, i);
+    (0..i).all(|j| x == 0 || changed(op, f, j) != x)
 }
 
-// No item changes an object that another changes.
-fn items_apart<'a>(objects: &'a [u32], seconds: &'a [u32], f: Family, n: usize) -> bool
-    ensures { result ≡ all_below n (apart objects.now seconds.now f) }
+// 12: no target, destination or listed object is named twice.
+fn items_apart(op: &Operation, f: Family) -> bool
+    ensures { result ≡ q12 op.now f }
 {
-    let mut i = 0;
-    while i < n {
-        if !item_apart(objects, seconds, f, i) {
-            return false;
-        }
-        i += 1;
-    }
-    true
+    (0..op.count).all(|i| item_apart(op, f, i))
 }
 
-// The kinds of an item fit: of its object, with the owner's class, and of its second number, a destination or 0.
-fn item_fits(f: Family, kind: u8, class: u8, v: usize, other: u8, form: usize) -> bool
-    ensures { result ≡ fits f kind class v other form }
+// The kinds of item i fit: of its object, with the owner's class, and of its second number, a destination or 0.
+fn item_fits(config: &Config, op: &Operation, f: Family, i: usize) -> bool
+    ensures { result ≡ item_fits config.now op.now f i }
 {
+    let o = number_of(&op.objects, i);
+    let v = number_of(&op.seconds, i);
+    let kind = byte_at(&config.objects.kind, o);
+    let free = kind != HARDCODED_KIND;
+    let other = byte_at(&config.objects.kind, v);
     match f {
-        Family::Write => (kind != HARDCODED_KIND) & ((kind == TRANSFER_KIND) == (form == 0)),
-        Family::Copy => (kind != HARDCODED_KIND)
-            & ((v == 0)
-                | ((other != HARDCODED_KIND)
-                    & ((kind == TRANSFER_KIND) == (other == TRANSFER_KIND)))),
-        Family::Create => true,
-        Family::Destroy => true,
-        Family::Activate => (kind != HARDCODED_KIND) & (class == EXTERNAL_CLASS),
-        Family::Deactivate => (kind != HARDCODED_KIND) & (class == EXTERNAL_CLASS),
-        Family::Lock => true,
-        Family::Unlock => true,
-    }
-}
-
-// Those of every item.
-fn items_fit<'a>(
-    kind: &'a [u8],
-    class: &'a [u8],
-    f: Family,
-    objects: &'a [u32],
-    seconds: &'a [u32],
-    forms: &'a [u32],
-    n: usize,
-) -> bool
-    ensures { result ≡ all_below n (item_fitting kind.now class.now f objects.now
-        seconds.now forms.now) }
-{
-    let mut i = 0;
-    while i < n {
-        let o = number_of(objects, i);
-        let v = number_of(seconds, i);
-        let form = number_of(forms, i);
-        let k = byte_at(kind, o);
-        let c = byte_at(class, o);
-        let other = byte_at(kind, v);
-        if !item_fits(f, k, c, v, other, form) {
-            return false;
+        Family::Write => free && (kind == TRANSFER_KIND) == (number_of(&op.forms, i) == 0),
+        Family::Copy => {
+            free && (v == 0
+                || other != HARDCODED_KIND && (kind == TRANSFER_KIND) == (other == TRANSFER_KIND))
         }
-        i += 1;
+        Family::Activate | Family::Deactivate => {
+            free && byte_at(&config.objects.class, o) == EXTERNAL_CLASS
+        }
+        _ => true,
     }
-    true
 }
 
-// The number of the first of these questions that is answered with no, or 0. 11: every driver, device, object and value
-// named exists, and every partition is 1 to 63. 12: no target, destination or listed object is named twice. 13: kinds
-// fit. The operation is taken apart here, once.
-pub fn judge_names<'a>(
-    counts: Counts,
-    kind: &'a [u8],
-    class: &'a [u8],
-    op: Operation,
-    f: Family,
-    a: Actor,
-) -> u8
-    ensures { (m : Config) → result ≡ names_no (judged_by m counts kind.now class.now) op f a 0 }
+// 13: those of every item do.
+fn items_fit(config: &Config, op: &Operation, f: Family) -> bool
+    ensures { result ≡ q13 config.now op.now f }
 {
-    let n = op.count;
-    let actor = actor_named(counts, a, op.subject);
-    let partition = partition_named(f, a, op.partition);
-    let items = items_named(counts, f, &op.objects, &op.seconds, &op.forms, n);
-    let q12 = items_apart(&op.objects, &op.seconds, f, n);
-    let q13 = items_fit(kind, class, f, &op.objects, &op.seconds, &op.forms, n);
-    ask(11, actor & partition & items, ask(12, q12, ask(13, q13, 0)))
+    (0..op.count).all(|i| item_fits(config, op, f, i))
+}
+
+// The first of these questions that is answered with no, if one is.
+pub fn judge_names(config: &Config, op: &Operation, f: Family, a: Actor) -> Result<(), Question>
+    ensures { answer_of result ≡ names_no config.now op.now f a 0 }
+{
+    ask(Question::Named, all_exist(config, op, f, a))?;
+    ask(Question::NamedOnce, items_apart(op, f))?;
+    ask(Question::KindsFit, items_fit(config, op, f))
 }

@@ -2,6 +2,7 @@
 use Prim.Native.Nat.{ℕ, zero, suc, ◌≤◌, ◌<◌}
 use mathlib.Core.Path.{◌≡◌, refl, sym, ap, ◌∙◌, subst}
 use mathlib.Core.List.{List, ◌∷◌, ◌++◌}
+use mathlib.Core.Logic.{◌⊎◌, inl, inr}
 use native.Mathlib.Omega.{arith}
 use lib.ListN.{length, take, drop, replicate}
 use lib.Seq.{length-take-le}
@@ -72,16 +73,13 @@ module _ (file session out : List ℕ) {r : ℕ} {out' : List ℕ} where
       subst (λ (a : List ℕ). Put (session_text file a first_answer 0 (cutting 0 session)) 0 out r out')
       (e ∙ ap (λ (a : List ℕ). (make_fresh file a).1) b) p
 
-  pub long-file : most_file < length file → Put long_row 0 out r out' → Put (reported file session) 0 out r out'
+  pub too-long : (most_file < length file) ⊎ ((length file ≤ most_file) × (most_session < length session))
+      → Put long_row 0 out r out' → Put (reported file session) 0 out r out'
   unfolding reported
-  long-file h p = rw (lt-ltb most_file (length file) h) p
+  too-long (inl h) p = rw (lt-ltb most_file (length file) h) p
+  too-long (inr (l, h)) p = rw (le-ltb most_file (length file) l, lt-ltb most_session (length session) h) p
 
   module _ (l : length file ≤ most_file) where
-    pub long-session : most_session < length session → Put long_row 0 out r out'
-        → Put (reported file session) 0 out r out'
-    unfolding reported
-    long-session h p = rw (le-ltb most_file (length file) l, lt-ltb most_session (length session) h) p
-
     module _ (m : length session ≤ most_session) (n : ℕ) (e : n ≡ (load file).answer) where
       pub refused : (n ≡ 0 → ⊥) → Put (line_row n) 0 out r out' → Put (reported file session) 0 out r out'
       refused h p =

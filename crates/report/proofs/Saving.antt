@@ -10,8 +10,8 @@ use Rattle.model.specs.ConfigWrite.{file_of}
 use Rattle.model.specs.Office.{most_file, long_row, line_row}
 use Rattle.model.specs.Rewriting.{most_word, rewrite_answer, rewrite_area, rewrite_text, rewrite_file}
 use Rattle.model.specs.declared.Config.{Config}
-use Rattle.model.specs.declared.Written.{Written}
-use Rattle.model.specs.declared.Written.TheVariants.{Length, Refused, Short}
+use Rattle.model.specs.Written.{Written}
+use Rattle.model.specs.Written.{Length, Refused, Short}
 use Rattle.model.proofs.FileWritten.{writable}
 use Rattle.model.proofs.FileLength.{file-most}
 use Rattle.model.proofs.Writable.{loaded_sound}
@@ -108,11 +108,11 @@ module _ (file text out : List ℕ) where
       let (t, f) = program_long file h in
       both long_row [] t f (put_down word long_row t p) (down_none out)
 
-  module _ (l : length file ≤ most_file) (room : length out ≡ most_file) (w : Written)
-      (e : w ≡ rewrite_answer file (length out)) {out' : List ℕ} (a : out' ≡ rewrite_area file out) where
-    pub saved_file : (n : ℕ) → w ≡ Length n → Saved 0 text n out'
-    saved_file n z =
-        let (y, m, r) = case_of file out room (Length n) (sym z ∙ e) in
+  module _ (l : length file ≤ most_file) (room : length out ≡ most_file) {out' : List ℕ}
+      (a : out' ≡ rewrite_area file out) where
+    pub saved_file : (n : ℕ) → Length n ≡ rewrite_answer file (length out) → Saved 0 text n out'
+    saved_file n e =
+        let (y, m, r) = case_of file out room (Length n) e in
         let (t, f) = program_accepted file l y in
         let c = (load file).config in
         let fits : length (file_of c) ≤ length out =
@@ -120,13 +120,13 @@ module _ (file text out : List ℕ) where
         both [] (file_of c) t f (down_none text)
         (down (file_of c) out fits n out' m (a ∙ r ∙ ap (λ (j : ℕ). file_of c ++ drop j out) m))
 
-    pub saved_refused : length text ≡ most_word → (q : ℕ) → w ≡ Refused q → {k : ℕ} {text' : List ℕ}
-        → Put (line_row q) 0 text k text' → Saved k text' 0 out'
-    saved_refused word q z {k} {text'} p =
-        let (y, h, r) = case_of file out room (Refused q) (sym z ∙ e) in
+    pub saved_refused : length text ≡ most_word → (q : ℕ) → Refused q ≡ rewrite_answer file (length out)
+        → {k : ℕ} {text' : List ℕ} → Put (line_row q) 0 text k text' → Saved k text' 0 out'
+    saved_refused word q e {k} {text'} p =
+        let (y, h, r) = case_of file out room (Refused q) e in
         let (t, f) = program_refused file l q y h in
         both (line_row q) [] t f (put_down word (line_row q) t p)
         (subst (λ (x : List ℕ). Down [] out 0 x) (sym (a ∙ r)) (down_none out))
 
-    pub never_short : (n : ℕ) → w ≡ Short n → ⊥
-    never_short n z = case_of file out room (Short n) (sym z ∙ e)
+    pub never_short : (n : ℕ) → Short n ≡ rewrite_answer file (length out) → ⊥
+    never_short n e = case_of file out room (Short n) e

@@ -1,14 +1,13 @@
 -- Laws of a session's rows: a row, nothing left, a session that is broken off, and a record with what follows it.
-use Prim.Native.Nat.{ℕ, suc, ◌+◌, ◌-◌, ◌≤◌, ◌<◌}
-use mathlib.Core.Path.{◌≡◌, refl, sym, ap, ◌∙◌, subst}
+use Prim.Native.Nat.{ℕ, suc, ◌+◌, ◌≤◌, ◌<◌}
+use mathlib.Core.Path.{◌≡◌, refl, sym, ◌∙◌, subst}
 use mathlib.Core.List.{List, [], ◌∷◌, ◌++◌, append_assoc}
 use native.Mathlib.Omega.{arith}
-use lib.ListN.{length, take, drop, length-drop}
+use lib.ListN.{length, take, drop}
 use lib.Seq.{drop-drop}
 use Rattle.model.specs.Number.{number_at}
 use Rattle.model.specs.Gate.{operate}
 use Rattle.model.specs.Separation.{answers_of}
-use Rattle.model.specs.Programs.{Operated}
 use Rattle.model.specs.Office.{
   Session,
   ended,
@@ -26,8 +25,7 @@ use Rattle.model.specs.Office.{
   session_text,
 }
 use Rattle.model.specs.declared.Fault.{Fault}
-use Rattle.model.specs.declared.Num.{Num}
-use Rattle.model.specs.declared.Num.TheVariants.{Got, Bad}
+use Rattle.model.specs.Num.{Got, Bad}
 use Rattle.model.proofs.OfficeLaws.{cutting_end, cutting_bad, cutting_short, cutting-next}
 use Rattle.page.specs.Page.{Put}
 use Rattle.report.specs.Rows.{Rows}
@@ -41,18 +39,6 @@ row_put at out place n {p₁} {p₂} {p₃} {r} {out₁} {out₂} {out₃} {out'
     let bc = then p₁ out₁ (space ∷ []) (decimal n) b c in
     let abc = then at out (decimal place) (space ∷ decimal n) a bc in
     then at out (decimal place ++ space ∷ decimal n) (newline ∷ []) abc d
-
--- a record was judged and its row put down
-abbrev pub Judged : List ℕ → List ℕ → List ℕ → ℕ → List ℕ → ℕ → List ℕ → ℕ → List ℕ → List ℕ → List ℕ → Type 0
-Judged file area answer at out place bytes r area' answer' out' =
-    Put (row place (operate file area bytes answer).0) at out r out'
-    × ((area' ≡ (operate file area bytes answer).1) × (answer' ≡ (operate file area bytes answer).2))
-
-pub record-put : (file area bytes answer out : List ℕ) (at place : ℕ) {n r : ℕ} {area' answer' out' : List ℕ}
-    → Operated file area bytes answer n area' answer' → Put (row place n) at out r out'
-    → Judged file area answer at out place bytes r area' answer' out'
-record-put file area bytes answer out at place {n} {r} {area'} {answer'} {out'} o p =
-    (subst (λ (k : ℕ). Put (row place k) at out r out') o.0 p, (o.1, o.2))
 
 -- ---- a session
 module _ (file : List ℕ) (s : Session) (place : ℕ) (area answer : List ℕ) (at : ℕ) (out : List ℕ) where
@@ -84,68 +70,48 @@ module _ (file : List ℕ) (s : Session) (place : ℕ) (area answer : List ℕ) 
         )
 
 -- ---- the loop: what is left of the session, from here on, completes the whole
-module _ (file session area₀ answer₀ out₀ : List ℕ) where
-  unfoldable pub Onward : List ℕ → List ℕ → List ℕ → ℕ → ℕ → ℕ → Type 0
-  Onward area answer out at place end =
-      (r : ℕ) (area' answer' out' : List ℕ)
-      → Rows file (cutting 0 (drop at session)) place area answer end out r area' answer' out'
+pub record Onward (file session area₀ answer₀ out₀ area answer out left : List ℕ) (place end : ℕ) : Type 0 where
+  pub completes : (r : ℕ) (area' answer' out' : List ℕ)
+      → Rows file (cutting 0 left) place area answer end out r area' answer' out'
       → Rows file (cutting 0 session) 0 area₀ answer₀ 0 out₀ r area' answer' out'
 
-  module _ (area answer out : List ℕ) (at place end : ℕ) (k : Onward area answer out at place end) where
-    pub onward-done : length session ≤ at → end ≤ length out
-        → Rows file (cutting 0 session) 0 area₀ answer₀ 0 out₀ end area answer out
-    unfolding Onward
-    onward-done h l =
-        k end area answer out
-        (rows-ended file (cutting 0 (drop at session)) place area answer end out
-        (cutting_end (drop at session) (simp length-drop (omega arith))) l)
+module _ {file session area₀ answer₀ out₀ area answer out left : List ℕ} {place end : ℕ}
+    (k : Onward file session area₀ answer₀ out₀ area answer out left place end) where
+  pub onward-done : length left ≤ 0 → end ≤ length out
+      → Rows file (cutting 0 session) 0 area₀ answer₀ 0 out₀ end area answer out
+  onward-done h l =
+      k.completes end area answer out
+      (rows-ended file (cutting 0 left) place area answer end out (cutting_end left h) l)
 
-    -- t is what is left of the session, and n the length at its head
-    module _ (t : List ℕ) (w : t ≡ drop at session) (n : Num) (h : at < length session) (e : n ≡ number_at t 0) where
-      more : 0 < length t
-      more = rw w (simp length-drop (omega arith))
+  pub onward_bad : (f : Fault) → 0 < length left → Bad f ≡ number_at left 0 → {r : ℕ} {out' : List ℕ}
+      → Put cut_row end out r out' → Rows file (cutting 0 session) 0 area₀ answer₀ 0 out₀ r area answer out'
+  onward_bad f h e {r} {out'} p =
+      k.completes r area answer out'
+      (rows-broken file (cutting 0 left) place area answer end out (cutting_bad (Bad f) left f h e refl) p)
 
-      pub onward_bad : (f : Fault) → n ≡ Bad f → {r : ℕ} {out' : List ℕ} → Put cut_row end out r out'
-          → Rows file (cutting 0 session) 0 area₀ answer₀ 0 out₀ r area answer out'
-      unfolding Onward
-      onward_bad f g {r} {out'} p =
-          k r area answer out'
-          (rows-broken file (cutting 0 (drop at session)) place area answer end out
-          (ap (cutting 0) (sym w) ∙ cutting_bad n t f more e g) p)
+  -- v is the length at the head of what is left
+  module _ (v from : ℕ) (h : 0 < length left) (e : Got v from ≡ number_at left 0) where
+    pub onward_short : length left < from + v → {r : ℕ} {out' : List ℕ} → Put cut_row end out r out'
+        → Rows file (cutting 0 session) 0 area₀ answer₀ 0 out₀ r area answer out'
+    onward_short l {r} {out'} p =
+        k.completes r area answer out'
+        (rows-broken file (cutting 0 left) place area answer end out
+        (cutting_short (Got v from) left v from h e refl l) p)
 
-      module _ (v from : ℕ) (g : n ≡ Got v from) where
-        pub onward_short : length t < from + v → {r : ℕ} {out' : List ℕ} → Put cut_row end out r out'
-            → Rows file (cutting 0 session) 0 area₀ answer₀ 0 out₀ r area answer out'
-        unfolding Onward
-        onward_short l {r} {out'} p =
-            k r area answer out'
-            (rows-broken file (cutting 0 (drop at session)) place area answer end out
-            (ap (cutting 0) (sym w) ∙ cutting_short n t v from more e g l) p)
-
-        pub onward-next : from + v ≤ length t → {p : ℕ} {area₁ answer₁ out₁ : List ℕ}
-            → Judged file area answer end out (place + 1) (take (from + v - from) (drop from t)) p area₁ answer₁ out₁
-            → Onward area₁ answer₁ out₁ (at + (from + v)) (place + 1) p
-        unfolding Onward
-        onward-next l {p} {area₁} {answer₁} {out₁} q r area' answer' out' x =
-            let m : from + v - from ≡ v = omega arith in
-            let one : place + 1 ≡ suc place = omega arith in
-            let bytes = take v (drop from t) in
-            let q₀ = subst
-            (λ (j : ℕ). Judged file area answer end out (place + 1) (take j (drop from t)) p area₁ answer₁ out₁) m q in
-            let q₁ = subst (λ (j : ℕ). Judged file area answer end out j bytes p area₁ answer₁ out₁) one q₀ in
-            let next = ap (cutting 0) (sym w) ∙ cutting-next n t v from more e g l in
-            let after : drop (at + (from + v)) session ≡ drop (from + v) t =
-            sym (drop-drop (from + v) at session) ∙ ap (drop (from + v)) (sym w) in
-            let x₁ = subst
-            (λ (u : List ℕ). Rows file (cutting 0 u) (place + 1) area₁ answer₁ p out₁ r area' answer' out') after x in
-            let x₂ = subst
-            (λ (j : ℕ). Rows file (cutting 0 (drop (from + v) t)) j area₁ answer₁ p out₁ r area' answer' out') one x₁ in
-            k r area' answer' out'
-            (rows_next file (cutting 0 (drop at session)) place area answer end out bytes
-            (cutting 0 (drop (from + v) t)) next q₁.0 q₁.1.0 q₁.1.1 x₂)
-
--- the place after a record is within the session
-pub stop-within : (session t : List ℕ) (at v from : ℕ) → t ≡ drop at session → at < length session → from ≤ length t
-    → v ≤ length t - from → at + (from + v) ≤ length session
-stop-within session t at v from w h l m =
-    let e : length t ≡ length session - at = ap length w ∙ length-drop at session in omega arith
+    -- bytes are the record at the head, and after what follows it
+    pub onward-next : (bytes after : List ℕ) → bytes ≡ take v (drop from left) → after ≡ drop v (drop from left)
+        → from + v ≤ length left → {p : ℕ} {area₁ answer₁ out₁ : List ℕ}
+        → Put (row (place + 1) (operate file area bytes answer).0) end out p out₁
+        → area₁ ≡ (operate file area bytes answer).1 → answer₁ ≡ (operate file area bytes answer).2
+        → Onward file session area₀ answer₀ out₀ area₁ answer₁ out₁ after (place + 1) p
+    onward-next bytes after b w l {p} {area₁} {answer₁} {out₁} q a c = record {
+      completes = λ r area' answer' out' x.
+          let one : place + 1 ≡ suc place = omega arith in
+          let m : after ≡ drop (from + v) left = w ∙ drop-drop v from left in
+          let cut : cutting 0 left ≡ preceded bytes (cutting 0 after) =
+          cutting-next (Got v from) left v from h e refl l ∙ rw (b, m) in
+          let q₁ = subst (λ (j : ℕ). Put (row j (operate file area bytes answer).0) end out p out₁) one q in
+          let x₁ = subst (λ (j : ℕ). Rows file (cutting 0 after) j area₁ answer₁ p out₁ r area' answer' out') one x in
+          k.completes r area' answer' out'
+          (rows_next file (cutting 0 left) place area answer end out bytes (cutting 0 after) cut q₁ a c x₁);
+    }

@@ -49,10 +49,7 @@ fn put_session(line: &[u8], session: &[u8], out: &mut [u8]) -> usize
 fn report(line: &[u8], session: &[u8], out: &mut [u8]) -> usize
     ensures { Put (reported line.now session.now) 0 out.old result out.new }
 {
-    if MOST_FILE < line.len() {
-        return put_long(out);
-    }
-    if MOST_SESSION < session.len() {
+    if MOST_FILE < line.len() || MOST_SESSION < session.len() {
         return put_long(out);
     }
     let refusal = gate::gate_load_check(line);

@@ -4,7 +4,7 @@ ghost use Rattle.model.specs.Rewriting.{rewrite_text, rewrite_file};
 ghost use Rattle.page.specs.Page.{Counts};
 
 use crate::MOST_FILE;
-use model::Written;
+use model::Unwritten;
 use page::{put_line, put_long};
 
 // How long the text is at most: `line`, a space, a digit and the end of the row.
@@ -34,16 +34,17 @@ pub fn rewrite_whole(
     ensures counts_2 { Counts result.file file.new }
 {
     if MOST_FILE < line.len() {
-        let k = put_long(text);
-        return Rewriting { text: k, file: 0 };
+        return Rewriting {
+            text: put_long(text),
+            file: 0,
+        };
     }
-    let w = writer::rewrite(line, file);
-    match w {
-        Written::Length(n) => Rewriting { text: 0, file: n },
-        Written::Refused(q) => {
-            let k = put_line(text, q as u32);
-            Rewriting { text: k, file: 0 }
+    match writer::rewrite(line, file) {
+        Ok(n) => Rewriting { text: 0, file: n },
+        Err(Unwritten::Refused(q)) => {
+            let n = put_line(text, u32::from(q.number()));
+            Rewriting { text: n, file: 0 }
         }
-        Written::Short(_) => Rewriting { text: 0, file: 0 },
+        Err(Unwritten::Short(_)) => Rewriting { text: 0, file: 0 },
     }
 }

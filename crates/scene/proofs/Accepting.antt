@@ -6,11 +6,10 @@ use mathlib.Core.Logic.{◌⊎◌, inl, inr}
 use mathlib.Core.Bool.{true, not, ◌||◌, false≢true}
 use mathlib.Core.List.{List, [], ◌∷◌}
 use lib.Dec.{leb, eqb}
-use lib.ListN.{length, get_or}
+use lib.ListN.{get_or}
 use borrow.Author.Tests.{eqb-true, leb-true, le-leb}
 use Rattle.model.specs.Config.{kind_of, owner_of, hardcoded_of, entry_place, entry_at}
-use Rattle.model.specs.State.{State, content_of, held, value_bytes, area_length}
-use Rattle.model.specs.State.{view, same_bytes, a_value, right_content}
+use Rattle.model.specs.State.{State, content_of, held, value_bytes, same_bytes, a_value, right_content}
 use Rattle.model.specs.declared.Config.{Config}
 use Rattle.model.proofs.Lists.{and_l, and_r, or_true}
 use Rattle.model.proofs.Columns.{or_else_lem}
@@ -19,10 +18,10 @@ use Rattle.model.proofs.Formed.{content-value}
 use Rattle.model.proofs.Hardcoded as Hardcoded
 use Rattle.model.proofs.Accepted as Accepted
 use Rattle.scene.specs.Rules.{holds_value}
-use Rattle.scene.specs.Scene.{In, ValuesOk, OwnersOk, AreaOk}
+use Rattle.scene.specs.Scene.{In, ValuesOk, OwnersOk, AreaOk, Searchable}
 
 module _ (config : Config) (sound : Accepted.Sound config) where
-  pub values_ok_lem : ValuesOk config.counts config.values.count config.values.entries
+  pub values_ok_lem : ValuesOk config
   values_ok_lem =
       record {
         few-devices = sound.few.devices;
@@ -43,7 +42,7 @@ module _ (config : Config) (sound : Accepted.Sound config) where
           → Accepted.EntryRange config.counts config.objects (entry_at config.values.entries (entry_place v j))
       range v j l i = sound.ranges.places v j (least v j i) l i.low i.high
 
-  pub owners_ok_lem : OwnersOk config.counts config.objects.class config.objects.owner
+  pub owners_ok_lem : OwnersOk config
   owners_ok_lem =
       record {
         few-devices = sound.few.devices;
@@ -89,14 +88,19 @@ module _ (config : Config) (sound : Accepted.Sound config) where
             sound.ranges.hardcoded (owner_of config o) c.0 c.1,
           )
 
-  pub area_ok_lem : (room : ℕ) (area : List ℕ) → length area ≡ area_length room → config.counts.objects ≤ room
-      → ((o : ℕ) → In config.counts.objects o → right_content config o (content_of (view room area) o) ≡ true)
-      → AreaOk config.counts config.objects.kind area room
-  area_ok_lem room area long fits h =
+  pub area_ok_lem : (room : ℕ) (b : State) → config.counts.objects ≤ room
+      → ((o : ℕ) → In config.counts.objects o → right_content config o (content_of b o) ≡ true)
+      → AreaOk config room b
+  area_ok_lem room b fits h =
       record {
-        long = long;
         few-objects = sound.few.objects;
         few-values = sound.few.values;
         in_room = fits;
-        held_known = λ o i k. content_known (view room area) o i (h o i) k;
+        held_known = λ o i k. content_known b o i (h o i) k;
       }
+
+  pub searchable_lem : (room : ℕ) (b : State) → config.counts.objects ≤ room
+      → ((o : ℕ) → In config.counts.objects o → right_content config o (content_of b o) ≡ true)
+      → Searchable config room b
+  searchable_lem room b fits h =
+      record { values = values_ok_lem; owners = owners_ok_lem; held = area_ok_lem room b fits h }

@@ -1,5 +1,5 @@
 -- The digits of words: or, and, powers of two, the low sixteen, and the lowest that is set.
-use Prim.Native.Nat.{ℕ, zero, suc, ◌+◌, ◌-◌, ◌*◌, ◌/◌, ◌%◌, ◌^◌, ◌≤◌, ◌<◌, max}
+use Prim.Native.Nat.{ℕ, zero, suc, ◌+◌, ◌-◌, ◌*◌, ◌/◌, ◌%◌, ◌^◌, ◌≤◌, ◌<◌, max, min}
 use native.Mathlib.Nat.{
   not-suc-le-zero,
   add-zero,
@@ -21,7 +21,6 @@ use native.Mathlib.Omega.{arith}
 use native.Mathlib.Decide.{ℕ_discrete}
 use mathlib.Core.Path.{◌≡◌, refl, sym, ap, ap₂, subst, ◌∙◌}
 use mathlib.Core.Logic.{◌⊎◌, inl, inr, ⊎_elim, by_cases}
-use mathlib.Core.Bool.{Bool, true, false, cond}
 use lib.Arith.{digits_div, digits_mod, mod-mul}
 use lib.Bits.{
   bit_or,
@@ -75,11 +74,6 @@ or_right a b k e = or_bit a b k ∙ omega (arith, bit_two a k)
 
 pub or_out : (a b k : ℕ) → bit (bit_or a b) k ≡ 1 → (bit a k ≡ 1) ⊎ (bit b k ≡ 1)
 or_out a b k e = by_cases (ℕ_discrete (bit a k) 1) inl (λ n. inr (omega (arith, sym (or_bit a b k) ∙ e, bit_two a k)))
-
--- a word that a test picks
-pub pick_bit : (b : Bool) (x y n : ℕ) → y ≡ cond b x 0 → bit y n ≡ 1 → (b ≡ true) × (bit x n ≡ 1)
-pick_bit true x y n e h = (refl, subst (λ (z : ℕ). bit z n ≡ 1) e h)
-pick_bit false x y n e h = absurd (bit_zero n (subst (λ (z : ℕ). bit z n ≡ 1) e h))
 
 -- what is within another word
 pub or_within : (a b k : ℕ) → bit_or b a ≡ b → bit a k ≡ 1 → bit b k ≡ 1
@@ -238,14 +232,33 @@ xor_both a b k e f h =
 digit : (n k : ℕ) → (bit n k ≡ 1) ⊎ (bit n k ≡ 0)
 digit n k = by_cases (ℕ_discrete (bit n k) 1) inl (λ h. inr (omega (arith, bit_two n k)))
 
-pub without_of : (a b : ℕ) → Without a b (bit_xor (bit_or a b) b)
-without_of a b =
+-- the digits that two words share
+min_two : (x y : ℕ) → x < 2 → y < 2 → min x y < 2
+min_two x y h k = omega arith
+
+and_bit : (a b k : ℕ) → bit (bit_and a b) k ≡ min (bit a k) (bit b k)
+and_bit = op_bit bit_and min and_step min_two
+
+-- the digits that a word lacks
+flip_bit : (d b k : ℕ) → b < 2 ^ d → k < d → bit (2 ^ d - 1 - b) k ≡ 1 - bit b k
+unfolding bit
+flip_bit zero b k l h = absurd (not-suc-le-zero h)
+flip_bit (suc d) b zero l h = omega (arith, pow-suc 2 d)
+flip_bit (suc d) b (suc k) l h =
+    let e : (2 ^ suc d - 1 - b) / 2 ≡ 2 ^ d - 1 - b / 2 = omega (arith, pow-suc 2 d) in
+    ap (λ (x : ℕ). bit x k) e ∙ flip_bit d (b / 2) k (omega (arith, pow-suc 2 d)) (omega arith)
+
+pub without_of : (a b : ℕ) → a < 2 ^ 64 → b < 2 ^ 64 → Without a b (bit_and a (2 ^ 64 - 1 - b))
+without_of a b la lb =
     record {
-      here = λ k e.
-          ⊎_elim (λ h. absurd (xor_both (bit_or a b) b k (or_right a b k h) h e))
-          (λ z. ⊎_elim (λ h. h) (λ h. absurd (omega arith)) (or_out a b k (xor_out (bit_or a b) b k e z))) (digit b k);
-      other = λ k e h. xor_both (bit_or a b) b k (or_right a b k h) h e;
-      all = λ k e. ⊎_elim inl (λ z. inr (xor_in (bit_or a b) b k (or_left a b k e) z)) (digit b k);
+      here = λ k e. omega (arith, and_bit a (2 ^ 64 - 1 - b) k, bit_two a k);
+      other = λ k e h.
+          (let here : bit a k ≡ 1 = omega (arith, and_bit a (2 ^ 64 - 1 - b) k, bit_two a k) in
+          omega (arith, and_bit a (2 ^ 64 - 1 - b) k, flip_bit 64 b k lb (bit_below a 64 k la here)));
+      all = λ k e.
+          ⊎_elim inl
+          (λ z. inr (omega (arith, and_bit a (2 ^ 64 - 1 - b) k, flip_bit 64 b k lb (bit_below a 64 k la e))))
+          (digit b k);
     }
 
 and_pow : (k w : ℕ) → bit w k ≡ 1 → bit_and w (2 ^ k) ≡ 2 ^ k

@@ -26,7 +26,6 @@ use Rattle.model.specs.Config.{
 }
 use Rattle.model.specs.State.{content_bytes, State, object_in, held, window, content_place, view}
 use Rattle.model.specs.Closure.{active, live}
-use Rattle.model.specs.declared.Counts.{Counts}
 use Rattle.model.specs.declared.Config.{Config}
 use Rattle.model.proofs.Lists.{and_l, and_r, both_true, from1to-low, from1to-high, from1to_intro}
 use Rattle.model.proofs.Facts.{owns-low, owns-high, owns-class, owns-owner}
@@ -157,8 +156,8 @@ entry-there m none zero j h = absurd (omega arith)
 entry-there m none (suc v) j h = entry_mem m.config (suc v) j (omega arith) h.low h.high
 
 -- its bytes are in the table, and it names what exists
-pub entry_ok_lem : {n : Counts} {count table : List ℕ} → ValuesOk n count table → (v j : ℕ) → v ≤ n.values
-    → In (get_or count v 0) j → EntryOk table (entry_place v j)
+pub entry_ok_lem : {config : Config} → ValuesOk config → (v j : ℕ) → v ≤ config.counts.values
+    → In (get_or config.values.count v 0) j → EntryOk config.values.entries (entry_place v j)
 entry_ok_lem k v j p q =
     record {
       place = omega (arith, k.few-values, k.few-entries v p, q.high);
@@ -195,8 +194,7 @@ mode-writes (suc (suc (suc zero))) i = refl
 mode-writes (suc (suc (suc (suc n)))) i = absurd (omega (arith, i.high))
 
 -- the device that a hardcoded descriptor belongs to is one of the configuration
-pub owners_of : (m : Scene) → OwnersOk m.config.counts m.config.objects.class m.config.objects.owner
-    → Owners m
+pub owners_of : (m : Scene) → OwnersOk m.config → Owners m
 owners_of m ok c o h =
     subst (λ (c : ℕ). In m.config.counts.devices c) (hardcoded-owner m.config c o h)
     (ok.device_known o (hardcoded-object m.config c o h) (hardcoded-class m.config c o h))

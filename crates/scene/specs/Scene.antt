@@ -1,6 +1,6 @@
 -- What a search for the closure looks at: a configuration, whether write entries count, and a state. Functions have
 -- some of the configuration's columns; their contracts hold whatever the rest is.
-use Rattle.std.specs.Prelude.{ℕ, suc, ◌+◌, ◌≤◌, ◌≡◌, Bool, true, false, List, length, get_or}
+use Rattle.std.specs.Prelude.{ℕ, suc, ◌+◌, ◌≤◌, ◌≡◌, Bool, true, false, List, get_or}
 use Rattle.model.specs.Config.{
   most_devices,
   most_objects,
@@ -12,7 +12,7 @@ use Rattle.model.specs.Config.{
   Entry,
   entry_at,
 }
-use Rattle.model.specs.State.{State, held, area_length, view}
+use Rattle.model.specs.State.{State, held}
 use Rattle.model.specs.Closure.{Reads}
 use Rattle.model.specs.declared.Counts.{Counts}
 use Rattle.model.specs.declared.Devices.{Devices}
@@ -47,23 +47,11 @@ abbrev pub scene_of : Devices → Counts → List ℕ → List ℕ → List ℕ 
 scene_of d n kind class owner count entries storing b =
     record { config = search_config d n kind class owner count entries; storing = storing; state = b }
 
--- the scene m with the columns by which entries are followed
-abbrev pub following : Scene → Counts → List ℕ → List ℕ → List ℕ → Bool → Scene
-following m n kind count entries storing =
-    scene_of m.config.devices n kind m.config.objects.class m.config.objects.owner count entries storing
-    m.state
-
 -- the scene m with the kinds by which a transfer is looked up; write entries do not count
 abbrev pub looking : Scene → List ℕ → Scene
 looking m kind =
     scene_of m.config.devices m.config.counts kind m.config.objects.class m.config.objects.owner
     m.config.values.count m.config.values.entries false m.state
-
--- the scene m with the columns and the state by which a search starts
-abbrev pub starting : Scene → Counts → List ℕ → List ℕ → List ℕ → State → Scene
-starting m n kind class owner b =
-    scene_of m.config.devices n kind class owner m.config.values.count m.config.values.entries m.storing
-    b
 
 -- entry j, from 1, of value v
 abbrev pub entry_of : Scene → ℕ → ℕ → Entry
@@ -85,31 +73,38 @@ pub record EntryOk (entries : List ℕ) (at : ℕ) : Type 0 where
   pub stored : get_or entries (at + 2) 0 ≤ most_values
 
 -- the values of an accepted configuration
-pub record ValuesOk (n : Counts) (count entries : List ℕ) : Type 0 where
-  pub few-devices : n.devices ≤ most_devices
-  pub few-objects : n.objects ≤ most_objects
-  pub few-values : n.values ≤ most_values
-  pub no_entries : get_or count 0 0 ≡ 0
-  pub few-entries : (v : ℕ) → v ≤ n.values → get_or count v 0 ≤ most_entries
-  pub object_known : (v j : ℕ) → v ≤ n.values → In (get_or count v 0) j
-      → In n.objects (get_or entries (entry_place v j) 0)
-  pub mode_known : (v j : ℕ) → v ≤ n.values → In (get_or count v 0) j
-      → In most_mode (get_or entries (entry_place v j + 1) 0)
-  pub stored_known : (v j : ℕ) → v ≤ n.values → In (get_or count v 0) j
-      → get_or entries (entry_place v j + 2) 0 ≤ n.values
+pub record ValuesOk (config : Config) : Type 0 where
+  pub few-devices : config.counts.devices ≤ most_devices
+  pub few-objects : config.counts.objects ≤ most_objects
+  pub few-values : config.counts.values ≤ most_values
+  pub no_entries : get_or config.values.count 0 0 ≡ 0
+  pub few-entries : (v : ℕ) → v ≤ config.counts.values → get_or config.values.count v 0 ≤ most_entries
+  pub object_known : (v j : ℕ) → v ≤ config.counts.values → In (get_or config.values.count v 0) j
+      → In config.counts.objects (get_or config.values.entries (entry_place v j) 0)
+  pub mode_known : (v j : ℕ) → v ≤ config.counts.values → In (get_or config.values.count v 0) j
+      → In most_mode (get_or config.values.entries (entry_place v j + 1) 0)
+  pub stored_known : (v j : ℕ) → v ≤ config.counts.values → In (get_or config.values.count v 0) j
+      → get_or config.values.entries (entry_place v j + 2) 0 ≤ config.counts.values
 
 -- the owners of an accepted configuration
-pub record OwnersOk (n : Counts) (class owner : List ℕ) : Type 0 where
-  pub few-devices : n.devices ≤ most_devices
-  pub device_known : (o : ℕ) → In n.objects o → get_or class o 0 ≡ 2 → In n.devices (get_or owner o 0)
+pub record OwnersOk (config : Config) : Type 0 where
+  pub few-devices : config.counts.devices ≤ most_devices
+  pub device_known : (o : ℕ) → In config.counts.objects o → get_or config.objects.class o 0 ≡ 2
+      → In config.counts.devices (get_or config.objects.owner o 0)
 
 -- an area with room for the objects, whose descriptors hold values that exist
-pub record AreaOk (n : Counts) (kind area : List ℕ) (room : ℕ) : Type 0 where
-  pub long : length area ≡ area_length room
-  pub few-objects : n.objects ≤ most_objects
-  pub few-values : n.values ≤ most_values
-  pub in_room : n.objects ≤ room
-  pub held_known : (o : ℕ) → In n.objects o → holds_value (get_or kind o 0) ≡ true → held (view room area) o ≤ n.values
+pub record AreaOk (config : Config) (room : ℕ) (b : State) : Type 0 where
+  pub few-objects : config.counts.objects ≤ most_objects
+  pub few-values : config.counts.values ≤ most_values
+  pub in_room : config.counts.objects ≤ room
+  pub held_known : (o : ℕ) → In config.counts.objects o → holds_value (get_or config.objects.kind o 0) ≡ true
+      → held b o ≤ config.counts.values
+
+-- what a search requires of a configuration and of an area
+pub record Searchable (config : Config) (room : ℕ) (b : State) : Type 0 where
+  pub values : ValuesOk config
+  pub owners : OwnersOk config
+  pub held : AreaOk config room b
 
 module _ (m : Scene) where
   -- device c reads a pair with value v

@@ -1,25 +1,6 @@
 // Words as sets of numbers below 64.
-ghost use Rattle.std.specs.Prelude.{◌≡◌, cond, ◌^◌, ◌≤◌, ◌<◌, eqb};
-ghost use Rattle.std.specs.Int.Bits.{bit_or};
+ghost use Rattle.std.specs.Prelude.{◌≡◌, ◌^◌, ◌<◌, eqb};
 ghost use Rattle.scene.specs.Digits.{bit, Next, Cleared, Without};
-
-// The word, or none of it.
-pub fn pick(b: bool, x: u64) -> u64
-    ensures { result ≡ cond b x 0 }
-{
-    if b {
-        return x;
-    }
-    0
-}
-
-// Both sets together.
-pub fn join(a: u64, b: u64) -> u64
-    ensures value { result ≡ bit_or a b }
-    ensures upper_bound { result ≤ 2 ^ 64 }
-{
-    a | b
-}
 
 // The word with the one digit k.
 pub fn power(k: usize) -> u64
@@ -36,9 +17,10 @@ pub fn next(w: u64, from: usize) -> usize
 {
     let s = w >> from;
     if s == 0 {
-        return 64;
+        64
+    } else {
+        from + s.trailing_zeros() as usize
     }
-    from + u64::trailing_zeros(s) as usize
 }
 
 // The word has the digit k.
@@ -55,7 +37,7 @@ pub fn lowest(w: u64) -> usize
     ensures upper_bound { result < 64 }
     ensures result_value { bit w result ≡ 1 }
 {
-    u64::trailing_zeros(w) as usize
+    w.trailing_zeros() as usize
 }
 
 // The word without its digit k.
@@ -71,5 +53,5 @@ pub fn clear(w: u64, k: usize) -> u64
 pub fn without(a: u64, b: u64) -> u64
     ensures { Without a b result }
 {
-    (a | b) ^ b
+    a & !b
 }

@@ -1,25 +1,25 @@
 -- The table of objects that a deactivation concerns, by the turns of the loops that make it. Assumes nothing.
 use Prim.Native.Nat.{ℕ, zero, suc, ◌+◌, ◌≤◌, ◌<◌}
-use mathlib.Core.Path.{◌≡◌, refl, sym, ◌∙◌, subst}
+use mathlib.Core.Path.{◌≡◌, refl, sym, ◌∙◌}
 use mathlib.Core.List.{List}
-use mathlib.Core.Bool.{Bool, true, false, not, ◌&&◌, cond}
+use mathlib.Core.Bool.{Bool, true, false, not, ◌&&◌}
 use native.Mathlib.Numerals.{add-one}
 use native.Mathlib.Omega.{arith}
 use native.Mathlib.Decide.{ℕ_discrete, dec_le}
 use lib.ListN.{length, get_or, set, replicate}
 use lib.Seq.{get_or-set_same, get_or-set_other}
 use lib.Dec.{leb, eqb}
+use Rattle.std.specs.Int.{from_bool}
 use borrow.Author.Tests.{eq-eqb, ne_eqb, lt-leb}
 use Rattle.model.specs.Base.{below}
-use Rattle.model.specs.Config.{most_objects}
+use Rattle.model.specs.Config.{most_objects, class_of, owner_of, owns}
 use Rattle.model.specs.Effect.{concerned}
 use Rattle.model.specs.declared.Actor.{Actor}
 use Rattle.model.specs.declared.Actor.TheVariants.{Driver, Device, External}
 use Rattle.model.specs.declared.Config.{Config}
 use Rattle.model.specs.declared.Operation.{Operation}
-use Rattle.effect.specs.Moves.{owned_by, listed}
+use Rattle.effect.specs.Moves.{listed}
 use Rattle.searches.specs.Asking.{Marks, InTable}
-use Rattle.state.specs.Change.{objects_lent}
 
 -- how many places a table of objects has
 abbrev pub slots : ℕ
@@ -30,54 +30,54 @@ zeros_at zero o = refl
 zeros_at (suc m) zero = refl
 zeros_at (suc m) (suc o) = zeros_at m o
 
-one_at : (t : Bool) → eqb (cond t 1 0) 1 ≡ t
+one_at : (t : Bool) → eqb (from_bool t) 1 ≡ t
 one_at true = refl
 one_at false = refl
 
--- objects 1 to i are marked, and none after them
+-- the objects below i are marked, and none from i on
 unfoldable pub Upto : List ℕ → (ℕ → Bool) → ℕ → Type 0
-Upto t p i = ((o : ℕ) → o ≤ i → eqb (get_or t o 0) 1 ≡ p o) × ((o : ℕ) → i < o → get_or t o 0 ≡ 0)
+Upto t p i = ((o : ℕ) → o < i → eqb (get_or t o 0) 1 ≡ p o) × ((o : ℕ) → i ≤ o → get_or t o 0 ≡ 0)
 
-module _ (n : ℕ) (class owner : List ℕ) (a k : ℕ) where
+module _ (config : Config) (class k : ℕ) where
+  abbrev n : ℕ
+  n = config.counts.objects
+
   abbrev Owned : ℕ → Bool
-  Owned = owned_by n class owner a k
+  Owned = owns config class k
 
-  pub owned-start : Upto (replicate slots 0) Owned 0
-  unfolding Upto owned_by objects_lent
+  pub owned-start : Upto (replicate slots 0) Owned 1
+  unfolding Upto
   owned-start = ((λ o h. none o h), λ o h. zeros_at slots o)
     where
-      none : (o : ℕ) → o ≤ 0 → eqb (get_or {A = ℕ} (replicate slots 0) o 0) 1 ≡ Owned o
+      none : (o : ℕ) → o < 1 → eqb (get_or {A = ℕ} (replicate slots 0) o 0) 1 ≡ Owned o
       none zero h = refl
       none (suc o) h = absurd (omega arith)
 
-  pub owned_turn : (t : List ℕ) (i : ℕ) {h : Bool} {x : ℕ} → Upto t Owned i → i < n → n ≤ most_objects
-      → length t ≡ slots → h ≡ Owned (i + 1) → x ≡ cond h 1 0
-      → Upto (set t (i + 1) x) Owned (i + 1)
+  pub owned_turn : (t : List ℕ) (i : ℕ) {h : Bool} → Upto t Owned i → i ≤ n → n ≤ most_objects
+      → length t ≡ slots → h ≡ Owned i → Upto (set t i (from_bool h)) Owned (i + 1)
   unfolding Upto
-  owned_turn t i {h} {x} u l m long e v = (
-    (λ o b. at o b (ℕ_discrete o (i + 1))),
-    λ o b. get_or-set_other t (i + 1) o x 0 (λ z. absurd (omega arith)) ∙ u.1 o (omega arith),
+  owned_turn t i {h} u l m long e = (
+    (λ o b. at o b (ℕ_discrete o i)),
+    λ o b. get_or-set_other t i o (from_bool h) 0 (λ z. absurd (omega arith)) ∙ u.1 o (omega arith),
   )
     where
-      at : (o : ℕ) → o ≤ i + 1 → Dec (o ≡ i + 1) → eqb (get_or (set t (i + 1) x) o 0) 1 ≡ Owned o
-      at o b (yes z) =
-          rw (z, get_or-set_same t (i + 1) x 0 (omega arith), v) (one_at h ∙ e)
-      at o b (no z) = rw (get_or-set_other t (i + 1) o x 0 z) (u.0 o (omega arith))
+      at : (o : ℕ) → o < i + 1 → Dec (o ≡ i) → eqb (get_or (set t i (from_bool h)) o 0) 1 ≡ Owned o
+      at o b (yes z) = rw (z, get_or-set_same t i (from_bool h) 0 (omega arith)) (one_at h ∙ e)
+      at o b (no z) = rw (get_or-set_other t i o (from_bool h) 0 z) (u.0 o (omega arith))
 
   past : (o : ℕ) → n < o → Owned o ≡ false
-  unfolding owned_by objects_lent
   past o h = rw (lt-leb o n h) (go (leb 1 o))
     where
-      go : (s : Bool) → (s && false) && eqb (get_or class o 0) a && eqb (get_or owner o 0) k ≡ false
+      go : (s : Bool) → (s && false) && eqb (class_of config o) class && eqb (owner_of config o) k ≡ false
       go true = refl
       go false = refl
 
-  pub owned_end : (t : List ℕ) (i : ℕ) → Upto t Owned i → i ≤ n → n ≤ i → Marks t Owned
+  pub owned_end : (t : List ℕ) (i : ℕ) → Upto t Owned i → i ≡ n + 1 → Marks t Owned
   unfolding Upto Marks
-  owned_end t i u l m o = at (dec_le o i)
+  owned_end t i u e o = at (dec_le o n)
     where
-      at : Dec (o ≤ i) → eqb (get_or t o 0) 1 ≡ Owned o
-      at (yes h) = u.0 o h
+      at : Dec (o ≤ n) → eqb (get_or t o 0) 1 ≡ Owned o
+      at (yes h) = u.0 o (omega arith)
       at (no h) = rw (u.1 o (omega arith)) (sym (past o (omega arith)))
 
 -- a list
@@ -113,23 +113,15 @@ module _ (list : List ℕ) where
   unfolding InTable
   small-place i count l small e = omega (arith, small i l)
 
-  pub listed_end : (t : List ℕ) (i count : ℕ) → Marks t (listed list i) → i ≤ count → count ≤ i
-      → Marks t (listed list count)
-  listed_end t i count u l m = let e : i ≡ count = omega arith in subst (λ (k : ℕ). Marks t (listed list k)) e u
-
 -- the objects concerned
 module _ (config : Config) (op : Operation) where
-  pub by_driver : {a : Actor} → a ≡ Driver → (t : List ℕ)
-      → Marks t (owned_by config.counts.objects config.objects.class config.objects.owner 1 op.subject)
+  pub by_driver : {a : Actor} → a ≡ Driver → (t : List ℕ) → Marks t (owns config 1 op.subject)
       → Marks t (concerned config op a)
-  unfolding Marks owned_by objects_lent
-  by_driver e t h o = rw e (h o)
+  by_driver e t h = rw e h
 
-  pub by_device_lem : {a : Actor} → a ≡ Device → (t : List ℕ)
-      → Marks t (owned_by config.counts.objects config.objects.class config.objects.owner 2 op.subject)
+  pub by_device_lem : {a : Actor} → a ≡ Device → (t : List ℕ) → Marks t (owns config 2 op.subject)
       → Marks t (concerned config op a)
-  unfolding Marks owned_by objects_lent
-  by_device_lem e t h o = rw e (h o)
+  by_device_lem e t h = rw e h
 
   pub by_list : {a : Actor} → a ≡ External → (t : List ℕ) → Marks t (listed op.objects op.count)
       → Marks t (concerned config op a)

@@ -4,8 +4,7 @@ use mathlib.Core.Path.{◌≡◌, refl, sym, ap, ◌∙◌, subst}
 use mathlib.Core.List.{List}
 use mathlib.Core.Bool.{Bool, true, false, not, ◌||◌, beq, true≢false, false≢true}
 use native.Mathlib.Omega.{arith}
-use lib.ListN.{length, take, replicate}
-use lib.Seq.{length-take-le}
+use lib.ListN.{length, replicate}
 use lib.Dec.{eqb}
 use borrow.Author.Tests.{eqb-true, eq-eqb, ne_eqb, leb-true}
 use Rattle.model.specs.Config.{most_objects, most_values, kind_of}
@@ -13,24 +12,15 @@ use Rattle.model.specs.ConfigFile.{load}
 use Rattle.model.specs.Number.{most_number}
 use Rattle.model.specs.State.{State, object_in, content_of, room_for, area_length}
 use Rattle.model.specs.State.{view, layout, right_content, well_formed}
-use Rattle.model.specs.Operation.{family_of, actor_of, most_items, object_at, second_at, form_at, read_operation}
+use Rattle.model.specs.Operation.{family_of, actor_of, object_at, second_at, form_at, read_operation}
 use Rattle.model.specs.Effect.{apply, answer_bytes, concerned}
 use Rattle.model.specs.Questions.{q11, q13, q17, is_object, item_exists, is_kind, item_fits, zone_of}
 use Rattle.model.specs.Gate.{applied, judged}
 use Rattle.model.specs.declared.Family.{Family}
-use Rattle.model.specs.declared.Family.TheVariants.{
-  Write,
-  Copy,
-  Create,
-  Destroy,
-  Activate,
-  Deactivate,
-  Lock,
-  Unlock,
-}
+use Rattle.model.specs.declared.Family.TheVariants.{Write, Copy, Activate, Deactivate}
 use Rattle.model.specs.declared.Actor.{Actor}
 use Rattle.model.specs.declared.Config.{Config}
-use Rattle.model.specs.declared.Loaded.{Loaded}
+use Rattle.model.specs.Loaded.{Loaded}
 use Rattle.model.specs.declared.Operation.{Operation}
 use Rattle.model.proofs.Lists.{and_r, below_at, from1to-high}
 use Rattle.model.proofs.Accepted.{Sound, load-sound}
@@ -39,17 +29,15 @@ use Rattle.model.proofs.Formed.{Formed, formed_of, items_exist}
 use Rattle.model.proofs.FormedStores.{write_formed, copy_formed}
 use Rattle.model.proofs.FormedMoves.{activated_contents}
 use Rattle.model.proofs.OperationRange.{InRange, read-ranged}
-use Rattle.model.proofs.Reached.{layout_length}
 use Rattle.model.proofs.Zones.{concerned_zone}
-use Rattle.model.proofs.StateLaws.{Shape, view-layout, apply_shape}
-use Rattle.state.specs.Splice.{splice, part}
-use Rattle.state.proofs.Splicing.{splice-whole, part-whole}
+use Rattle.model.proofs.StateLaws.{view-layout, apply_shape}
 use Rattle.state.proofs.Places.{view_shape}
 use Rattle.effect.specs.Fit.{Fit}
 use Rattle.effect.proofs.Effects.{fit}
 use Rattle.green.specs.Rule.{Narrow}
-use Rattle.scene.proofs.Accepting.{values_ok_lem, owners_ok_lem, area_ok_lem}
-use Rattle.searches.specs.Ready.{Accepted, Searchable, Ready, Complete, Asked}
+use Rattle.scene.specs.Scene.{Searchable}
+use Rattle.scene.proofs.Accepting.{searchable_lem}
+use Rattle.searches.specs.Ready.{Accepted, Ready, Complete, Asked}
 use Rattle.searches.specs.Asking.{follows, InTable}
 
 pub accepted_of : (file : List ℕ) {l : Loaded} → l ≡ load file → l.answer ≡ 0 → Accepted l.config
@@ -63,17 +51,10 @@ sound_of : (config : Config) → Accepted config → Sound config
 sound_of config a = subst Sound (sym a.same) (load-sound a.file a.yes)
 
 -- questions 7 and 9 make an area that can be searched
-searchable : (config : Config) (room : ℕ) → config.counts.objects ≤ room → Sound config → (area : List ℕ)
-    → length area ≡ area_length room
-    → ((n : ℕ) → 1 ≤ n → n ≤ room → right_content config n (content_of (view room area) n) ≡ true)
-    → Searchable config room area
-searchable config room fits sound area long contents =
-    record {
-      values = values_ok_lem config sound;
-      owners = owners_ok_lem config sound;
-      held = area_ok_lem config sound room area long fits
-          (λ o i. contents o i.low (omega (arith, i.high, fits)));
-    }
+searchable : (config : Config) (room : ℕ) → config.counts.objects ≤ room → Sound config → (b : State)
+    → ((n : ℕ) → 1 ≤ n → n ≤ room → right_content config n (content_of b n) ≡ true) → Searchable config room b
+searchable config room fits sound b contents =
+    searchable_lem config sound room b fits (λ o i. contents o i.low (omega (arith, i.high, fits)))
 
 pub ready_of : (config : Config) (room : ℕ) (area : List ℕ) → Accepted config
     → (config.counts.objects ≤ room) × (room ≤ most_objects)
@@ -88,7 +69,7 @@ ready_of config room area a k e₇ y₇ e₉ y₉ =
       most = k.1;
       long = long;
       formed = h;
-      searchable = searchable config room k.0 (sound_of config a) area long
+      searchable = searchable config room k.0 (sound_of config a) (view room area)
           (formed_of room config (view room area) h).contents;
     }
 
@@ -98,9 +79,6 @@ complete_of bytes e o z = record { bytes = bytes; yes = sym e ∙ z; same = o }
 
 ranged : (op : Operation) → Complete op → InRange op
 ranged op c = subst InRange (sym c.same) (read-ranged c.bytes c.yes)
-
-pub few_items : (op : Operation) → Complete op → op.count ≤ most_items
-few_items op c = (ranged op c).few
 
 -- the room that an accepted configuration's count asks for
 pub room_of : (config : Config) → Accepted config → {room : ℕ} → room ≡ room_for config.counts.objects
@@ -135,6 +113,12 @@ stored-value config op a h m i l k =
     value : (s t : Bool) → s ≡ false → s || t ≡ true → t ≡ true
     value true t e h = absurd (true≢false e)
     value false t e h = h
+
+pub next-state : (config : Config) (op : Operation) (f : Family) (a : Actor) (b : State) → Asked config op f a
+    → applied config op b ≡ apply config op f a b
+next-state config op f a b asked =
+    sym (ap (λ (x : Family). apply config op x a b) asked.family
+    ∙ ap (λ (x : Actor). apply config op (family_of op.code) x b) asked.actor)
 
 -- the state that would follow
 module _ (config : Config) (room : ℕ) (area : List ℕ) (op : Operation) (f : Family) (a : Actor)
@@ -197,36 +181,15 @@ module _ (config : Config) (room : ℕ) (area : List ℕ) (op : Operation) (f : 
   unfolding apply
   followed_right Write c h p q = (write_formed room config ready.fits op before formed c p q).contents
   followed_right Copy c h p q = (copy_formed room config ready.fits op before formed c p q).contents
-  followed_right Create c h p q = absurd (false≢true h)
-  followed_right Destroy c h p q = absurd (false≢true h)
   followed_right Activate c h p q =
       activated_contents room config op before (view_shape room area).contents formed.contents c p
-  followed_right Deactivate c h p q = absurd (false≢true h)
-  followed_right Lock c h p q = absurd (false≢true h)
-  followed_right Unlock c h p q = absurd (false≢true h)
+  followed_right g c h p q = absurd (false≢true h)
 
-  pub next-state : applied config op (view room area) ≡ apply config op f a (view room area)
-  next-state =
-      sym (ap (λ (x : Family). apply config op x a (view room area)) asked.family
-      ∙ ap (λ (x : Actor). apply config op (family_of op.code) x (view room area)) asked.actor)
-
-  shape : Shape room (apply config op f a (view room area))
-  shape = apply_shape room config op f a (view room area) (view_shape room area)
-
-  module _ (s : List ℕ) (e : s ≡ layout (applied config op (view room area))) where
-    laid : s ≡ layout (apply config op f a (view room area))
-    laid = e ∙ ap layout next-state
-
-    pub next-view : view room s ≡ apply config op f a (view room area)
-    next-view = ap (view room) laid ∙ view-layout room (apply config op f a (view room area)) shape
-
-    next-long : length s ≡ area_length room
-    next-long = ap length laid ∙ layout_length room (apply config op f a (view room area)) shape
-
-    pub next-searchable : follows before op f a ≡ true → Searchable config room s
-    next-searchable h =
-        searchable config room ready.fits sound s next-long
-        (subst Right (sym next-view) (followed_right f a h asked.p11 asked.p13))
+  pub next-searchable : follows before op f a ≡ true → Searchable config room (applied config op before)
+  next-searchable h =
+      subst (Searchable config room) (sym (next-state config op f a before asked))
+      (searchable config room ready.fits sound (apply config op f a before)
+      (followed_right f a h asked.p11 asked.p13))
 
 -- all questions are answered with yes
 pub passed_fit : (config : Config) (room : ℕ) (area answer : List ℕ) (op : Operation) → Ready config room area
@@ -238,25 +201,10 @@ passed_fit config room area answer op ready complete e z d =
     (record { complete = complete; family = refl; actor = refl; p11 = p.p11; p13 = p.p13 }) area answer
     ready.long d
 
--- a scratch area for `most` records is long enough, and what is lent of it has the length that is asked for
-module _ (most room : ℕ) (op : Operation) (area scratch : List ℕ) (fits : room ≤ most)
-    (fit : Fit room op area (replicate answer_bytes 0)) (long : length scratch ≡ area_length most) where
-  pub scratch_lent : length area ≡ length (take (length area) scratch)
-  scratch_lent = sym (length-take-le (length area) scratch (omega (arith, fit.area, fits, long)))
-
-  pub scratch_long : length (take (length area) scratch) ≡ area_length room
-  scratch_long = sym scratch_lent ∙ fit.area
-
--- a copy of the whole area
-pub copied : (area next : List ℕ) → length area ≡ length next → splice next 0 (part area 0 (length next)) ≡ area
-copied area next e =
-    ap (splice next 0) (part-whole area (length next) e) ∙ splice-whole next area e
-
--- the effect on a copy is the effect on the area
-pub followed : (config : Config) (op : Operation) (room : ℕ) (area next : List ℕ) {s t : List ℕ}
-    → length next ≡ area_length room → Fit room op area (replicate answer_bytes 0)
-    → s ≡ splice next 0 (part area 0 (length next)) → t ≡ layout (applied config op (view room s))
-    → t ≡ layout (applied config op (view room area))
-followed config op room area next long f e h =
-    h ∙ ap (λ (x : List ℕ). layout (applied config op (view room x)))
-    (e ∙ copied area next (f.area ∙ sym long))
+-- the area that an operation leaves shows the state that would follow
+pub next-view : (config : Config) (op : Operation) (room : ℕ) (area : List ℕ) {s : List ℕ}
+    → s ≡ layout (applied config op (view room area)) → view room s ≡ applied config op (view room area)
+next-view config op room area e =
+    ap (view room) e
+    ∙ view-layout room (applied config op (view room area))
+    (apply_shape room config op (family_of op.code) (actor_of op.code) (view room area) (view_shape room area))

@@ -11,20 +11,10 @@ use Rattle.model.specs.Effect.{concerned}
 use Rattle.model.specs.Closure.{unnamed}
 use Rattle.model.specs.Questions.{zone_of, lets_go, q17, q20, itself}
 use Rattle.model.specs.declared.Family.{Family}
-use Rattle.model.specs.declared.Family.TheVariants.{
-  Write,
-  Copy,
-  Create,
-  Destroy,
-  Activate,
-  Deactivate,
-  Lock,
-  Unlock,
-}
+use Rattle.model.specs.declared.Family.TheVariants.{Deactivate}
 use Rattle.model.specs.declared.Actor.{Actor}
 use Rattle.model.specs.declared.Config.{Config}
 use Rattle.model.specs.declared.Operation.{Operation}
-use Rattle.sound.specs.Sound.{every_to}
 use Rattle.green.specs.Rule.{goes_by}
 use Rattle.green.proofs.Letting.{zone_same}
 use Rattle.searches.specs.Ready.{Ready, Asked}
@@ -33,26 +23,14 @@ use Rattle.searches.proofs.Readying
 
 -- only a deactivation leaves
 pub leaves_is : (f : Family) → leaves f ≡ true → f ≡ Deactivate
-leaves_is Write h = absurd (false≢true h)
-leaves_is Copy h = absurd (false≢true h)
-leaves_is Create h = absurd (false≢true h)
-leaves_is Destroy h = absurd (false≢true h)
-leaves_is Activate h = absurd (false≢true h)
 leaves_is Deactivate h = refl
-leaves_is Lock h = absurd (false≢true h)
-leaves_is Unlock h = absurd (false≢true h)
+leaves_is f h = absurd (false≢true h)
 
 module _ (config : Config) (b : State) (op : Operation) where
   pub q20_free : (f : Family) (a : Actor) → leaves f ≡ false → true ≡ q20 config b op f a
   unfolding q20
-  q20_free Write a h = refl
-  q20_free Copy a h = refl
-  q20_free Create a h = refl
-  q20_free Destroy a h = refl
-  q20_free Activate a h = refl
   q20_free Deactivate a h = absurd (true≢false h)
-  q20_free Lock a h = refl
-  q20_free Unlock a h = refl
+  q20_free f a h = refl
 
   abbrev pub stricter : Actor → Bool
   stricter a = every config.counts.objects (lets_go config b (concerned config op a))
@@ -61,8 +39,7 @@ module _ (config : Config) (b : State) (op : Operation) where
   stricter_by : (a : Actor)
       → ((n : ℕ) → concerned config op a n ≡ true → object_in b n ≡ zone_of b op a) → (t : List ℕ)
       → Marks t (concerned config op a) → {z : ℕ} → z ≡ zone_of b op a → {s : Bool}
-      → s ≡ (not (green b z) || every_to config.counts.objects
-      (goes_by config.objects.kind config.values.count config.values.entries b t z)) → s ≡ stricter a
+      → s ≡ (not (green b z) || every config.counts.objects (goes_by config b t z)) → s ≡ stricter a
   unfolding Marks
   stricter_by a inside t m e h =
       h ∙ zone_same config b t (concerned config op a) m _ (λ n k. inside n k ∙ sym e)
@@ -95,8 +72,7 @@ module _ (config : Config) (b : State) (op : Operation) where
 pub zone_stricter : (config : Config) (room : ℕ) (area : List ℕ) (op : Operation) (f : Family) (a : Actor)
     → Ready config room area → Asked config op f a → leaves f ≡ true → q17 (view room area) op f a ≡ true
     → (t : List ℕ) → Marks t (concerned config op a) → {z : ℕ} → z ≡ zone_of (view room area) op a → {s : Bool}
-    → s ≡ (not (green (view room area) z) || every_to config.counts.objects
-    (goes_by config.objects.kind config.values.count config.values.entries (view room area) t z))
+    → s ≡ (not (green (view room area) z) || every config.counts.objects (goes_by config (view room area) t z))
     → s ≡ stricter config (view room area) op a
 zone_stricter config room area op f a ready asked h p t m e q =
     stricter_by config (view room area) op a

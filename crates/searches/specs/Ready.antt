@@ -9,19 +9,13 @@ use Rattle.model.specs.declared.Family.{Family}
 use Rattle.model.specs.declared.Actor.{Actor}
 use Rattle.model.specs.declared.Config.{Config}
 use Rattle.model.specs.declared.Operation.{Operation}
-use Rattle.scene.specs.Scene.{ValuesOk, OwnersOk, AreaOk}
+use Rattle.scene.specs.Scene.{Searchable}
 
 -- questions 1 to 6: the configuration of a file that was accepted
 pub record Accepted (config : Config) : Type 0 where
   pub file : List ℕ
   pub yes : (load file).answer ≡ 0
   pub same : config ≡ (load file).config
-
--- what a search requires of a configuration's columns and of an area
-pub record Searchable (config : Config) (room : ℕ) (area : List ℕ) : Type 0 where
-  pub values : ValuesOk config.counts config.values.count config.values.entries
-  pub owners : OwnersOk config.counts config.objects.class config.objects.owner
-  pub held : AreaOk config.counts config.objects.kind area room
 
 -- questions 1 to 9, of an area with a record for each object, and no more than there can be objects
 pub record Ready (config : Config) (room : ℕ) (area : List ℕ) : Type 0 where
@@ -30,7 +24,7 @@ pub record Ready (config : Config) (room : ℕ) (area : List ℕ) : Type 0 where
   pub most : room ≤ most_objects
   pub long : length area ≡ area_length room
   pub formed : well_formed room config (view room area) ≡ true
-  pub searchable : Searchable config room area
+  pub searchable : Searchable config room (view room area)
 
 -- question 10: an operation that was read to its last byte
 pub record Complete (op : Operation) : Type 0 where

@@ -1,133 +1,66 @@
 // Question 18: each transfer of a device's write or copy is described now.
-ghost use Rattle.std.specs.Prelude.{◌≡◌, ℕ, ◌≤◌, length};
-ghost use Rattle.model.specs.State.{area_length, view};
-ghost use Rattle.model.specs.Operation.{most_items};
-ghost use Rattle.model.specs.Questions.{q18};
-ghost use Rattle.scene.specs.Scene.{Scene};
+ghost use Rattle.std.specs.Prelude.{◌≡◌};
+ghost use Rattle.model.specs.Questions.{transfer, q18};
+ghost use Rattle.state.specs.Shown.{shown};
 ghost use Rattle.described.specs.Offers.{Offered};
-ghost use Rattle.questions.specs.Items.{all_below};
-ghost use Rattle.searches.specs.Ready.{Ready, Complete};
-ghost use Rattle.searches.specs.Asking.{stores, today_of, pair_described, transfer_of, item_described};
+ghost use Rattle.described.specs.Today.{today};
+ghost use Rattle.searches.specs.Ready.{Ready};
+ghost use Rattle.searches.specs.Asking.{stores};
 
-use described::offers::is_described;
+use described::offers::{Transfer, is_described};
 use described::today::offered;
 use green::rule::is_by_device;
 use model::{Actor, Config, Family, OBJECT_SLOTS, Operation};
 use operation::columns::number_of;
-use state::look::value;
+use state::area::Area;
 
 // A write or a copy.
 pub fn is_storing(f: Family) -> bool
     ensures { result ≡ stores f }
 {
-    match f {
-        Family::Write => true,
-        Family::Copy => true,
-        Family::Create => false,
-        Family::Destroy => false,
-        Family::Activate => false,
-        Family::Deactivate => false,
-        Family::Lock => false,
-        Family::Unlock => false,
-    }
+    matches!(f, Family::Write | Family::Copy)
 }
 
-// A pair of a copy: the read of its source and, unless the destination is 0, the write of what the source holds.
-fn pair_described(
-    kind: &[u8; OBJECT_SLOTS],
-    area: &[u8],
-    room: usize,
-    table: &[u64; OBJECT_SLOTS],
-    source: usize,
-    destination: usize,
-) -> bool
-    requires { length area.now ≡ area_length room }
-    ensures { (m : Scene) (c : ℕ)
-        → Offered (today_of m kind.now (view room area.now)) c table.now
-        → result ≡ pair_described (today_of m kind.now (view room area.now)).config
-        (view room area.now) c source destination }
-{
-    if !is_described(kind, table, source, false, 0) {
-        return false;
-    }
-    if destination == 0 {
-        return true;
-    }
-    let v = value(area, room, source);
-    is_described(kind, table, destination, true, v as usize)
-}
-
-// The transfers of an item with object o and second number v.
+// The transfers of item i are described, by what is offered to the device now. A copy reads its source and, unless the
+// destination is 0, writes there what the source holds.
 fn item_described(
-    kind: &[u8; OBJECT_SLOTS],
-    area: &[u8],
-    room: usize,
+    config: &Config,
+    area: &Area,
+    op: &Operation,
+    f: Family,
     table: &[u64; OBJECT_SLOTS],
-    f: Family,
-    o: usize,
-    v: usize,
+    i: usize,
 ) -> bool
-    requires { length area.now ≡ area_length room }
-    ensures { (m : Scene) (c : ℕ)
-        → Offered (today_of m kind.now (view room area.now)) c table.now
-        → result ≡ transfer_of (today_of m kind.now (view room area.now)).config
-        (view room area.now) c f o v }
+    requires { Offered (today config.now (shown area.now)) op.now.subject table.now }
+    ensures { result ≡ transfer config.now (shown area.now) op.now f i }
 {
+    let o = number_of(&op.objects, i);
+    let v = number_of(&op.seconds, i);
     match f {
-        Family::Write => is_described(kind, table, o, true, v),
-        Family::Copy => pair_described(kind, area, room, table, o, v),
-        Family::Create => true,
-        Family::Destroy => true,
-        Family::Activate => true,
-        Family::Deactivate => true,
-        Family::Lock => true,
-        Family::Unlock => true,
-    }
-}
-
-// Those of every item: what the device's entries offer is put down once, and each transfer is looked up in it.
-fn items_described(config: Config, area: &[u8], room: usize, op: Operation, f: Family) -> bool
-    requires ready { Ready config room area.now }
-    requires count_le_most_items { op.count ≤ most_items }
-    ensures { result ≡ all_below op.count (item_described config (view room area.now) op f) }
-{
-    let counts = config.counts;
-    let t = config.objects;
-    let w = config.values;
-    let table = offered(
-        counts, &t.kind, &t.class, &t.owner, &w.count, &w.entries, area, room, op.subject,
-    );
-    let n = op.count;
-    let mut i = 0;
-    while i < n {
-        let o = number_of(&op.objects, i);
-        let v = number_of(&op.seconds, i);
-        if !item_described(&t.kind, area, room, &table, f, o, v) {
-            return false;
+        Family::Write => is_described(config, table, o, Transfer::Write(v)),
+        Family::Copy => {
+            is_described(config, table, o, Transfer::Read)
+                && (v == 0
+                    || is_described(
+                        config,
+                        table,
+                        v,
+                        Transfer::Write(usize::from(area.value(o))),
+                    ))
         }
-        i += 1;
+        _ => true,
     }
-    true
 }
 
-// 18: in a device's write or copy each transfer is described now.
-pub fn are_described(
-    config: Config,
-    area: &[u8],
-    room: usize,
-    op: Operation,
-    f: Family,
-    a: Actor,
-) -> bool
-    requires ready { Ready config room area.now }
-    requires complete { Complete op }
-    ensures { result ≡ q18 config (view room area.now) op f a }
+// 18: in a device's write or copy each transfer is described now. What the device's entries offer is put down once, and
+// each transfer is looked up in it.
+pub fn are_described(config: &Config, area: &Area, op: &Operation, f: Family, a: Actor) -> bool
+    requires { Ready config.now area.now.room area.now.bytes.now }
+    ensures { result ≡ q18 config.now (shown area.now) op.now f a }
 {
-    if !is_by_device(a) {
+    if !is_by_device(a) || !is_storing(f) {
         return true;
     }
-    if !is_storing(f) {
-        return true;
-    }
-    items_described(config, area, room, op, f)
+    let table = offered(config, area, op.subject);
+    (0..op.count).all(|i| item_described(config, area, op, f, &table, i))
 }

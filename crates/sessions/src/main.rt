@@ -4,21 +4,22 @@
 
 #![tactic(auto)]
 
-ghost use Rattle.std.specs.Prelude.{◌≡◌, ◌+◌, ◌*◌, ◌<◌};
-
 use files::read_full;
 use report::{MOST_TEXT, report_whole};
 
 const MOST_INPUT: usize = 196608;
 
-const HEAD_BYTES: usize = 4;
-
 // A number in two bytes, lower byte first.
-fn two(low: u8, high: u8) -> usize
-    ensures value { result ≡ low + 256 * high }
-    ensures upper_bound { result < 65536 }
-{
-    (low as usize) + 256 * (high as usize)
+fn two(low: u8, high: u8) -> usize {
+    usize::from(u16::from_le_bytes([low, high]))
+}
+
+// The first session of the input: the line's bytes and its own, behind their lengths; and the rest.
+fn first_session(input: &[u8]) -> Option<(&[u8], &[u8], &[u8])> {
+    let (sizes, rest) = input.split_first_chunk::<4>()?;
+    let (line, rest) = rest.split_at_checked(two(sizes[0], sizes[1]))?;
+    let (session, next) = rest.split_at_checked(two(sizes[2], sizes[3]))?;
+    Some((line, session, next))
 }
 
 fn judge(rt: &impl Print, line: &[u8], session: &[u8]) {
@@ -28,22 +29,14 @@ fn judge(rt: &impl Print, line: &[u8], session: &[u8]) {
     let _ = rt.write_all(b".\n");
 }
 
-fn judge_all(rt: &impl Print, s: &[u8]) {
-    let mut at: usize = 0;
-    while at < s.len() {
-        if s.len() - at < HEAD_BYTES {
+fn judge_all(rt: &impl Print, input: &[u8]) {
+    let mut rest = input;
+    for _ in 0..u64::MAX {
+        let Some((line, session, next)) = first_session(rest) else {
             return;
-        }
-        let line = two(s[at], s[at + 1]);
-        let session = two(s[at + 2], s[at + 3]);
-        let from = at + HEAD_BYTES;
-        if s.len() - from < line + session {
-            return;
-        }
-        let middle = from + line;
-        let end = middle + session;
-        judge(rt, &s[from..middle], &s[middle..end]);
-        at = end;
+        };
+        judge(rt, line, session);
+        rest = next;
     }
 }
 

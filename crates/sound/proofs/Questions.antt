@@ -1,9 +1,9 @@
--- Laws of the loops that put questions 5 and 6, and that the columns' questions are the model's.
+-- Laws of the loops that put questions 5 and 6, and that these questions by their parts are the model's.
 -- Assumes nothing.
 use Prim.Native.Nat.{ℕ, zero, suc, ◌+◌, ◌-◌, ◌≤◌, ◌<◌}
 use mathlib.Core.Path.{◌≡◌, refl, sym, ap, ◌∙◌}
 use mathlib.Core.List.{List, [], ◌∷◌}
-use mathlib.Core.Bool.{Bool, true, false, not, cond, ◌&&◌}
+use mathlib.Core.Bool.{Bool, true, false, cond, ◌&&◌}
 use native.Mathlib.Omega.{arith}
 use native.Mathlib.Decide.{ℕ_discrete}
 use native.Mathlib.Numerals.{add-one}
@@ -19,7 +19,7 @@ use lib.ListN.{
 }
 use lib.Seq.{get_or-set_same, get_or-set_other}
 use lib.Dec.{eqb, ltb}
-use borrow.Author.Tests.{le-leb, lt-leb, eq-eqb, ne_eqb, ltb-true, ltb-false}
+use borrow.Author.Tests.{le-leb, eq-eqb, ne_eqb, ltb-true, ltb-false}
 use Rattle.model.specs.Base.{all, every}
 use Rattle.model.specs.Config.{
   most_objects,
@@ -36,24 +36,19 @@ use Rattle.model.specs.Config.{
   entries,
 }
 use Rattle.model.specs.ConfigFile.{how_many, paired, own_entry, restrained}
-use Rattle.model.specs.declared.Counts.{Counts}
 use Rattle.model.specs.declared.Config.{Config}
 use Rattle.model.proofs.SameFile.{every-same, many-same}
+use Rattle.model.proofs.Lists.{every_intro}
 use Rattle.sound.specs.Sound.{
   every_to,
   tally,
   marks,
+  device_owned,
   noted,
   one_in,
-  has_one,
-  device_owned,
-  paired_by,
-  may_name,
-  entry_passes,
   all_from,
   value_passes,
   device_restrained,
-  restrained_by,
 }
 
 and-false : (b : Bool) → b && false ≡ false
@@ -77,6 +72,10 @@ module _ (p : ℕ → Bool) where
       last : Dec (i ≡ n) → (i < n → every n p ≡ false) → every n p && p (suc n) ≡ false
       last (yes q) k = rw (← q, e) (and-false (every i p))
       last (no q) k = rw (k (omega arith))
+
+  every_no : (n o : ℕ) → 1 ≤ o → o ≤ n → p o ≡ false → every n p ≡ false
+  every_no n zero l m e = absurd (omega arith)
+  every_no n (suc i) l m e = every_false n i (omega arith) e
 
   pub every_to_stop : (n i : ℕ) → i < n → p (i + 1) ≡ false → false ≡ every_to n p
   unfolding every_to
@@ -147,36 +146,46 @@ module _ (owned : List ℕ) (k l w : ℕ) where
       go true (no e) =
           rw (ne_eqb w c e, get_or-set_other owned w c (get_or owned w 0 + 1) 0 (λ z. e (sym z))) (omega arith)
 
--- the table counts the objects 1 to i
-module _ (kind class owner : List ℕ) where
-  abbrev pub Counted : ℕ → List ℕ → Type 0
-  Counted i owned = (c : ℕ) → c < length owned → get_or owned c 0 ≡ tally i (marks kind class owner c)
+pub ruleset note_laws = (note_other, note_wrong, note_past, note_one)
 
-  pub counted_start : (n : ℕ) → Counted 0 (replicate n 0)
+-- the objects before object o: each has passed, and the table counts them
+module _ (config : Config) where
+  abbrev pub EachOwned : ℕ → Type 0
+  EachOwned o = (n : ℕ) → 1 ≤ n → n < o → device_owned config n ≡ true
+
+  pub owned_more : (o : ℕ) → EachOwned o → device_owned config o ≡ true → EachOwned (o + 1)
+  owned_more o h e n low high = go (ℕ_discrete n o) (h n low)
+    where
+      go : Dec (n ≡ o) → (n < o → device_owned config n ≡ true) → device_owned config n ≡ true
+      go (yes q) k = rw (q, e)
+      go (no q) k = k (omega arith)
+
+  abbrev pub Counted : ℕ → List ℕ → Type 0
+  Counted o owned = (c : ℕ) → c < length owned → get_or owned c 0 ≡ tally (o - 1) (marks config c)
+
+  pub counted_start : (n : ℕ) → Counted 1 (replicate n 0)
   unfolding tally
   counted_start n c h = get_or-replicate n c 0 0 (simp length-replicate at h)
 
-  counted-few : (i w : ℕ) (owned : List ℕ) → Counted i owned → get_or owned w 0 ≤ i
-  counted-few i w owned h = go (ltb w (length owned)) refl
+  pub counted_room : (o w n : ℕ) (owned : List ℕ) → o ≤ n → n ≤ most_objects → Counted o owned
+      → get_or owned w 0 ≤ most_objects
+  counted_room o w n owned l m h = go (ltb w (length owned)) refl
     where
-      go : (b : Bool) → ltb w (length owned) ≡ b → get_or owned w 0 ≤ i
-      go true e = omega (arith, h w (ltb-true w (length owned) e), tally-few (marks kind class owner w) i)
+      go : (b : Bool) → ltb w (length owned) ≡ b → get_or owned w 0 ≤ most_objects
+      go true e = omega (arith, h w (ltb-true w (length owned) e), tally-few (marks config w) (o - 1))
       go false e = omega (arith, get_or-eq_default owned 0 (ltb-false w (length owned) e))
 
-  pub counted_room : (i w n : ℕ) (owned : List ℕ) → i < n → n ≤ most_objects → Counted i owned
-      → get_or owned w 0 ≤ most_objects
-  counted_room i w n owned l m h = omega (arith, counted-few i w owned h)
-
-  pub counted_go : (i : ℕ) (owned next : List ℕ) → Counted i owned
-      → next ≡ noted owned (get_or kind (i + 1) 0) (get_or class (i + 1) 0) (get_or owner (i + 1) 0) → Counted
-      (i + 1) next
+  pub counted_go : (o : ℕ) (owned next : List ℕ) → 1 ≤ o → Counted o owned
+      → next ≡ noted owned (kind_of config o) (class_of config o) (owner_of config o) → Counted (o + 1) next
   unfolding marks
-  counted_go i owned next h e c l =
-      let k = get_or kind (i + 1) 0 in
-      let m = get_or class (i + 1) 0 in
-      let w = get_or owner (i + 1) 0 in
+  counted_go o owned next first h e c l =
+      let k = kind_of config o in
+      let m = class_of config o in
+      let w = owner_of config o in
       let q : c < length owned = omega (arith, note_length owned k m w, ap (λ (t : List ℕ). length t) e) in
-      rw (e, note_get owned k m w c q, tally_go (marks kind class owner c) i, h c q)
+      let z : o - 1 + 1 ≡ o = omega arith in
+      let y : o + 1 - 1 ≡ o - 1 + 1 = omega arith in
+      rw (e, note_get owned k m w c q, y, tally_go (marks config c) (o - 1), h c q, z)
 
 -- a loop over entries, at entry i
 module _ (p : Entry → Bool) (table : List ℕ) (k i at : ℕ) where
@@ -204,10 +213,13 @@ module _ (p : Entry → Bool) (table : List ℕ) (k i at : ℕ) where
       let q : k - i ≡ 0 = omega arith in
       rw q
 
--- question 5 is the model's
+-- question 5 by its parts is the model's
+and-true : (b : Bool) → b && true ≡ b
+and-true true = refl
+and-true false = refl
+
 module _ (config : Config) where
-  marks-same : (c n : ℕ) → 1 ≤ n → n ≤ config.counts.objects
-      → marks config.objects.kind config.objects.class config.objects.owner c n ≡ hardcoded_to config c n
+  marks-same : (c n : ℕ) → 1 ≤ n → n ≤ config.counts.objects → marks config c n ≡ hardcoded_to config c n
   unfolding marks
   marks-same c n low high =
       rw (le-leb 1 n low, le-leb n config.counts.objects high)
@@ -217,55 +229,28 @@ module _ (config : Config) where
       go true b d = refl
       go false b d = refl
 
-  one_same : (c : ℕ) → has_one config.objects.kind config.objects.class config.objects.owner
-      config.counts.objects c
-      ≡ eqb (how_many config.counts.objects (hardcoded_to config c)) 1
-  unfolding has_one tally
-  one_same c = ap (λ (n : ℕ). eqb n 1) (many-same config.counts.objects _ _ (marks-same c))
+  one_same : (n o c : ℕ) (owned : List ℕ) → o ≡ n + 1 → n ≡ config.counts.objects → Counted config o owned
+      → c < length owned → one_in owned c ≡ eqb (how_many n (hardcoded_to config c)) 1
+  unfolding one_in tally
+  one_same n o c owned e z h l =
+      let d : o - 1 ≡ n = omega arith in
+      let k = rw d at (h c l) in
+      ap (λ (n : ℕ). eqb n 1) (k ∙ many-same n _ _ (λ i low high. marks-same c i low (omega arith)))
 
-  pub paired_same :
-      paired_by config.counts config.objects.kind config.objects.class config.objects.owner
-      ≡ paired config
-  unfolding paired_by paired every_to device_owned
-  paired_same = rw (every-same config.counts.devices _ _ (λ c low high. one_same c))
+  -- an object of kind 4 that is no device's
+  pub paired_no : (o : ℕ) → 1 ≤ o → o ≤ config.counts.objects → device_owned config o ≡ false → false ≡ paired config
+  unfolding paired device_owned
+  paired_no o low high e =
+      rw (every_no (device_owned config) config.counts.objects o low high e) (sym (and-false _))
 
--- both parts of it, as they are asked
-and-true : (b : Bool) → b && true ≡ b
-and-true true = refl
-and-true false = refl
-
-module _ (counts : Counts) (kind class owner : List ℕ) where
-  pub paired_no : (i : ℕ) → i < counts.objects → device_owned kind class (i + 1) ≡ false
-      → false ≡ paired_by counts kind class owner
-  unfolding paired_by
-  paired_no i h e =
-      rw (← every_to_stop (device_owned kind class) counts.objects i h e)
-      (sym (and-false (every_to counts.devices (has_one kind class owner counts.objects))))
-
-  pub paired-rest : (i : ℕ) (owned : List ℕ) (r : Bool) → i ≤ counts.objects → counts.objects ≤ i
-      → every_to i (device_owned kind class) ≡ true → Counted kind class owner i owned → counts.devices < length owned
-      → r ≡ every_to counts.devices (one_in owned) → r ≡ paired_by counts kind class owner
-  unfolding paired_by every_to one_in has_one
-  paired-rest i owned r l m d h v e =
-      let q : i ≡ counts.objects = omega arith in
-      rw (e, ← every_to_end (device_owned kind class) counts.objects i d l m, and-true, ← q)
-      (every-same counts.devices _ _ (λ c low high. ap (λ (n : ℕ). eqb n 1) (h c (omega arith))))
-
--- an object that is none, one past the last, and one of the configuration's
-module _ (kind class owner : List ℕ) (n c o : ℕ) where
-  pub name_none : o ≡ 0 → false ≡ may_name kind class owner n c o
-  unfolding may_name
-  name_none h = rw (lt-leb 1 o (omega arith))
-
-  pub name_past : n < o → false ≡ may_name kind class owner n c o
-  unfolding may_name
-  name_past h = rw (lt-leb o n h, and-false)
-
-  pub name_rest : (o ≡ 0 → ⊥) → o ≤ n
-      → (eqb (get_or class o 0) 2 && eqb (get_or owner o 0) c) && not (eqb (get_or kind o 0) 4)
-      ≡ may_name kind class owner n c o
-  unfolding may_name
-  name_rest h l = rw (le-leb 1 o (omega arith), le-leb o n l)
+  -- every object has passed, and is counted
+  pub paired-rest : (o : ℕ) (owned : List ℕ) (r : Bool) → o ≡ config.counts.objects + 1 → EachOwned config o
+      → Counted config o owned → config.counts.devices < length owned
+      → r ≡ every_to config.counts.devices (one_in owned) → r ≡ paired config
+  unfolding paired every_to device_owned
+  paired-rest o owned r z d h v e =
+      rw (e, every_intro config.counts.objects (device_owned config) (λ n low high. d n low (omega arith)), and-true)
+      (every-same config.counts.devices _ _ (λ c low high. one_same _ o c owned z refl h (omega arith)))
 
 -- the entries of a value: value 0 has none
 module _ (p : Entry → Bool) (count table : List ℕ) where
@@ -279,23 +264,16 @@ module _ (p : Entry → Bool) (count table : List ℕ) where
   passes_some zero k at r h e q s = absurd (h refl)
   passes_some (suc v) k at r h e q s = rw (s, e, q)
 
--- question 6 is the model's
-module _ (config : Config) where
-  passes_same : (c w : ℕ)
-      → value_passes
-      (entry_passes config.objects.kind config.objects.class config.objects.owner
-      config.counts.objects c)
-      config.values.count
-      config.values.entries
-      w
-      ≡ all (own_entry config c) (entries config w)
-  unfolding value_passes entry_passes may_name all_from entries
-  passes_same c zero = refl
-  passes_same c (suc v) = refl
+-- they are the model's entries of the value
+pub value-passes : (config : Config) (p : Entry → Bool) (w : ℕ)
+    → value_passes p config.values.count config.values.entries w ≡ all p (entries config w)
+unfolding value_passes all_from entries
+value-passes config p zero = refl
+value-passes config p (suc v) = refl
 
-  pub restrained-same :
-      restrained_by config.counts config.objects.kind config.objects.class config.objects.owner
-      config.devices.hardcoded config.values.count config.values.entries
-      ≡ restrained config
-  unfolding restrained restrained_by every_to device_restrained
-  restrained-same = every-same config.counts.devices _ _ (λ c low high. passes_same c (hardcoded_of config c))
+-- question 6 by devices is the model's
+pub restrained-devices : (config : Config) → every config.counts.devices (device_restrained config) ≡ restrained config
+unfolding restrained device_restrained
+restrained-devices config =
+    every-same config.counts.devices _ _
+    (λ c low high. value-passes config (own_entry config c) (hardcoded_of config c))

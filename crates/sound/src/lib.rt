@@ -1,19 +1,19 @@
-// Questions 5 and 6 over the columns of a configuration.
+// Questions 5 and 6 of a configuration.
 
 #![tactic(auto)]
 
-ghost use Rattle.std.specs.Prelude.{◌≡◌, not, ◌||◌, suc, ◌+◌, ◌*◌, ◌≤◌, eqb, length, get_or, replicate};
-ghost use Rattle.model.specs.Config.{most_devices, most_objects, entry_bytes, entry_at};
+ghost use Rattle.std.specs.Prelude.{◌≡◌, Bool, ℕ, not, ◌||◌, suc, ◌+◌, ◌≤◌, eqb, length, get_or};
+ghost use Rattle.model.specs.Config.{most_devices, most_objects, Entry, entry_at};
+ghost use Rattle.model.specs.ConfigFile.{paired, own_entry, restrained};
 ghost use Rattle.sound.specs.Columns.{Within};
-ghost use Rattle.sound.specs.Sound.{far_place, every_to, noted, one_in};
-ghost use Rattle.sound.specs.Sound.{paired_by, may_name, entry_passes, all_from, value_passes, restrained_by};
+ghost use Rattle.sound.specs.Sound.{far_place, every_to, noted, one_in, value_passes, device_restrained};
 
 use model::{
-    Counts, DEVICE_CLASS, DEVICE_SLOTS, ENTRY_BYTES, ENTRY_SLOTS, HARDCODED_KIND, OBJECT_SLOTS,
-    VALUE_SLOTS, byte_at, entry_place,
+    Config, DEVICE_CLASS, DEVICE_SLOTS, ENTRY_BYTES, HARDCODED_KIND, Values, byte_at, entry_place,
 };
 
 // An object of kind 4 is a device's, and is counted to that device; other objects pass.
+#[tactic(auto, using(crate::proofs::Questions::note_laws))]
 fn note(owned: &mut [u8; DEVICE_SLOTS], kind: u8, class: u8, owner: u8) -> bool
     requires owned_len { length owned.old ≡ suc most_devices }
     requires owner_bound { get_or owned.old owner 0 ≤ most_objects }
@@ -27,11 +27,9 @@ fn note(owned: &mut [u8; DEVICE_SLOTS], kind: u8, class: u8, owner: u8) -> bool
         return false;
     }
     let i = owner as usize;
-    if DEVICE_SLOTS <= i {
-        return true;
+    if i < DEVICE_SLOTS {
+        owned[i] += 1;
     }
-    let n = owned[i];
-    owned[i] = n + 1;
     true
 }
 
@@ -40,160 +38,81 @@ fn each_has_one(owned: &[u8; DEVICE_SLOTS], n: u8) -> bool
     requires { n ≤ most_devices }
     ensures { result ≡ every_to n (one_in owned.now) }
 {
-    let end = n as usize;
-    let mut i: usize = 0;
-    while i < end {
-        i += 1;
-        if owned[i] != 1 {
+    (1..n as usize + 1).all(|c| owned[c] == 1)
+}
+
+// Question 5, in one pass over the objects. It is always inlined: as a function of its own it would call nothing, and
+// so might keep its table below the stack pointer, where an interrupt handler may write.
+#[inline(always)]
+pub fn is_paired(config: &Config) -> bool
+    requires { Within config.now.counts }
+    ensures { result ≡ paired config.now }
+{
+    let objects = &config.objects;
+    let mut owned = [0u8; DEVICE_SLOTS];
+    for o in 1..config.counts.objects as usize + 1 {
+        if !note(
+            &mut owned,
+            objects.kind[o],
+            objects.class[o],
+            objects.owner[o],
+        ) {
             return false;
         }
     }
-    true
+    each_has_one(&owned, config.counts.devices)
 }
 
-// Question 5, in one pass over the objects. The devices' counts are made in `owned`, which is lent with zeros: a table
-// of its own would stand below the stack pointer, for this function calls nothing.
-pub fn is_paired<'a>(
-    counts: Counts,
-    kind: &'a [u8; OBJECT_SLOTS],
-    class: &'a [u8; OBJECT_SLOTS],
-    owner: &'a [u8; OBJECT_SLOTS],
-    owned: &mut [u8; DEVICE_SLOTS],
-) -> bool
-    requires within { Within counts }
-    requires owned_value { owned.old ≡ replicate (suc most_devices) 0 }
-    ensures { result ≡ paired_by counts kind.now class.now owner.now }
+// Each entry of value v passes, by its place in the table of entries. Value 0 has none.
+pub fn entries_all<F: Fn(usize) -> bool>(values: &Values, v: u8, passes: F) -> bool
+    requires { (at : ℕ) → at ≤ far_place → F.pre passes at }
+    ensures { (p : Entry → Bool)
+        → ((at : ℕ) (r : Bool) → at ≤ far_place → F.post passes at r → r ≡ p (entry_at values.now.entries at))
+        → result ≡ value_passes p values.now.count values.now.entries v }
 {
-    let end = counts.objects as usize;
-    let mut i: usize = 0;
-    while i < end {
-        i += 1;
-        if !note(owned, kind[i], class[i], owner[i]) {
-            return false;
-        }
-    }
-    each_has_one(&*owned, counts.devices)
-}
-
-// The hardcoded value of device v may name object o.
-fn may_name<'a>(
-    kind: &'a [u8; OBJECT_SLOTS],
-    class: &'a [u8; OBJECT_SLOTS],
-    owner: &'a [u8; OBJECT_SLOTS],
-    n: u8,
-    v: u8,
-    o: u8,
-) -> bool
-    requires { n ≤ most_objects }
-    ensures { result ≡ may_name kind.now class.now owner.now n v o }
-{
-    if o == 0 {
-        return false;
-    }
-    if n < o {
-        return false;
-    }
-    let i = o as usize;
-    let k = kind[i];
-    let c = class[i];
-    let w = owner[i];
-    let own = (c == DEVICE_CLASS) & (w == v);
-    own & (k != HARDCODED_KIND)
-}
-
-// The entry at a place of the table is one that the hardcoded value of device v may have.
-fn entry_passes<'a>(
-    kind: &'a [u8; OBJECT_SLOTS],
-    class: &'a [u8; OBJECT_SLOTS],
-    owner: &'a [u8; OBJECT_SLOTS],
-    entries: &'a [u8],
-    n: u8,
-    v: u8,
-    at: usize,
-) -> bool
-    requires n_le_most_objects { n ≤ most_objects }
-    requires at_le_far_place { at ≤ far_place }
-    ensures { result ≡ entry_passes kind.now class.now owner.now n v
-        (entry_at entries.now at) }
-{
-    let o = byte_at(entries, at);
-    may_name(kind, class, owner, n, v, o)
-}
-
-// The k entries from a place of the table on are such.
-fn entries_pass<'a>(
-    kind: &'a [u8; OBJECT_SLOTS],
-    class: &'a [u8; OBJECT_SLOTS],
-    owner: &'a [u8; OBJECT_SLOTS],
-    entries: &'a [u8],
-    n: u8,
-    v: u8,
-    at: usize,
-    k: u8,
-) -> bool
-    requires n_le_most_objects { n ≤ most_objects }
-    requires k_bound { at + entry_bytes * k ≤ far_place }
-    ensures { result ≡ all_from (entry_passes kind.now class.now owner.now n v)
-        entries.now at k }
-{
-    let mut i: u8 = 0;
-    let mut p = at;
-    while i < k {
-        if !entry_passes(kind, class, owner, entries, n, v, p) {
-            return false;
-        }
-        p += ENTRY_BYTES;
-        i += 1;
-    }
-    true
-}
-
-// The hardcoded value w of device v names only what it may.
-fn value_passes<'a>(
-    kind: &'a [u8; OBJECT_SLOTS],
-    class: &'a [u8; OBJECT_SLOTS],
-    owner: &'a [u8; OBJECT_SLOTS],
-    count: &'a [u8],
-    entries: &'a [u8],
-    n: u8,
-    v: u8,
-    w: u8,
-) -> bool
-    requires { n ≤ most_objects }
-    ensures { result ≡ value_passes (entry_passes kind.now class.now owner.now n v)
-        count.now entries.now w }
-{
-    if w == 0 {
+    if v == 0 {
         return true;
     }
-    let i = w as usize;
-    let k = byte_at(count, i);
-    entries_pass(kind, class, owner, entries, n, v, entry_place(w, 1), k)
+    let k = byte_at(&values.count, v as usize) as usize;
+    let from = entry_place(v, 1);
+    for i in 0..k {
+        if !passes(from + ENTRY_BYTES * i) {
+            return false;
+        }
+    }
+    true
+}
+
+// The hardcoded value of a device may have the entry at a place of the table: it names an object of the device's own
+// that is not of kind 4.
+fn is_own(config: &Config, device: usize, at: usize) -> bool
+    requires within { Within config.now.counts }
+    requires near { at ≤ far_place }
+    ensures { result ≡ own_entry config.now device (entry_at config.now.values.entries at) }
+{
+    let objects = &config.objects;
+    let o = byte_at(&config.values.entries, at) as usize;
+    1 <= o
+        && o <= config.counts.objects as usize
+        && objects.class[o] == DEVICE_CLASS
+        && objects.owner[o] as usize == device
+        && objects.kind[o] != HARDCODED_KIND
+}
+
+// The hardcoded value of a device has such entries only.
+fn is_device_restrained(config: &Config, device: usize) -> bool
+    requires within { Within config.now.counts }
+    requires near { device ≤ most_devices }
+    ensures { result ≡ device_restrained config.now device }
+{
+    let v = config.devices.hardcoded[device];
+    entries_all(&config.values, v, |at| is_own(config, device, at))
 }
 
 // Question 6.
-pub fn is_restrained<'a>(
-    counts: Counts,
-    kind: &'a [u8; OBJECT_SLOTS],
-    class: &'a [u8; OBJECT_SLOTS],
-    owner: &'a [u8; OBJECT_SLOTS],
-    hardcoded: &'a [u8; DEVICE_SLOTS],
-    count: &'a [u8; VALUE_SLOTS],
-    entries: &'a [u8; ENTRY_SLOTS],
-) -> bool
-    requires { Within counts }
-    ensures { result ≡ restrained_by counts kind.now class.now owner.now
-        hardcoded.now count.now entries.now }
+pub fn is_restrained(config: &Config) -> bool
+    requires { Within config.now.counts }
+    ensures { result ≡ restrained config.now }
 {
-    let last = counts.devices;
-    let mut i: u8 = 0;
-    while i < last {
-        i += 1;
-        let at = i as usize;
-        let w = hardcoded[at];
-        if !value_passes(kind, class, owner, count, entries, counts.objects, i, w) {
-            return false;
-        }
-    }
-    true
+    (1..config.counts.devices as usize + 1).all(|c| is_device_restrained(config, c))
 }

@@ -104,20 +104,20 @@ use Rattle.sources.specs.FirstNo.{
   FileFirstNo,
   OperateFirstNo,
 }
-use Rattle.model.specs.declared.Num.{Num}
-use Rattle.model.specs.declared.Num.TheVariants.{Got, Bad}
+use Rattle.model.specs.Num.{Num}
+use Rattle.model.specs.Num.{Got, Bad}
 use Rattle.model.specs.declared.Fault.TheVariants.{Cut, Form}
-use Rattle.model.specs.declared.Field.TheVariants.{Value, No}
-use Rattle.model.specs.declared.Reading.{Reading}
-use Rattle.model.specs.declared.Reading.TheVariants.{At, Refused}
-use Rattle.model.specs.declared.Head.{Head}
-use Rattle.model.specs.declared.Head.TheVariants.{Counted, Stopped}
+use Rattle.model.specs.Field.{Value, No}
+use Rattle.model.specs.Reading.{Reading}
+use Rattle.model.specs.Reading.{At, Refused}
+use Rattle.model.specs.Head.{Head}
+use Rattle.model.specs.Head.{Counted, Stopped}
 use Rattle.model.specs.declared.Counts.{Counts}
 use Rattle.model.specs.declared.Objects.{Objects}
 use Rattle.model.specs.declared.Devices.{Devices}
 use Rattle.model.specs.declared.Values.{Values}
 use Rattle.model.specs.declared.Config.{Config}
-use Rattle.model.specs.declared.Loaded.{Loaded}
+use Rattle.model.specs.Loaded.{Loaded}
 use Rattle.sources.proofs.FileQuestions.{load_told}
 use Rattle.sources.proofs.FirstNo.{first, first-exact, answer-first}
 use Rattle.sources.proofs.FileCalls.{file-operate}

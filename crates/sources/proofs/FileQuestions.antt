@@ -22,13 +22,13 @@ use Rattle.model.specs.ConfigFile.{
   load,
 }
 use Rattle.model.specs.FileQuestions.{on_head, on_group, told}
-use Rattle.model.specs.declared.Reading.{Reading}
-use Rattle.model.specs.declared.Reading.TheVariants.{At, Refused}
-use Rattle.model.specs.declared.Head.{Head}
-use Rattle.model.specs.declared.Head.TheVariants.{Counted, Stopped}
+use Rattle.model.specs.Reading.{Reading}
+use Rattle.model.specs.Reading.{At, Refused}
+use Rattle.model.specs.Head.{Head}
+use Rattle.model.specs.Head.{Counted, Stopped}
 use Rattle.model.specs.declared.Counts.{Counts}
 use Rattle.model.specs.declared.Config.{Config}
-use Rattle.model.specs.declared.Loaded.{Loaded}
+use Rattle.model.specs.Loaded.{Loaded}
 
 -- joined readings go on exactly if all that is asked for in them passes
 module _ (s : List ℕ) where

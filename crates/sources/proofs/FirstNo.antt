@@ -26,7 +26,7 @@ use Rattle.sources.specs.FirstNo.{
   CallFirstNo,
   FreshFirstNo,
 }
-use Rattle.model.specs.declared.Parse.{Parse}
+use Rattle.model.specs.Parse.{Parse}
 use Rattle.model.proofs.Lists.{and_l, and_r, not_eqb, bool_cases}
 use Rattle.sources.proofs.Calls.{call_answer}
 

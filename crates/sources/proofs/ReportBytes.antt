@@ -44,8 +44,8 @@ use Rattle.model.specs.Operation.{
 use Rattle.sources.specs.Gate.{Source, config_of, file_source}
 use Rattle.model.specs.Trace.{Transfer, Described}
 use Rattle.sources.specs.Reports.{Reports, report_code, report_end, ReportReadableOn, ReportReadable}
-use Rattle.model.specs.declared.Num.{Num}
-use Rattle.model.specs.declared.Parse.{Parse}
+use Rattle.model.specs.Num.{Num}
+use Rattle.model.specs.Parse.{Parse}
 use Rattle.model.specs.declared.Config.{Config}
 use Rattle.model.specs.declared.Operation.{Operation}
 use Rattle.model.proofs.Lists.{from1to-high}

@@ -12,7 +12,7 @@ use Rattle.model.specs.ConfigFile.{load}
 use Rattle.model.specs.Office.{most_file}
 use Rattle.model.specs.Rewriting.{coded, rewrite_answer, rewrite_area, rewrite_text, rewrite_file}
 use Rattle.sources.specs.Rewriting.{RewrittenSame, SavedSame}
-use Rattle.model.specs.declared.Written.TheVariants.{Length, Short}
+use Rattle.model.specs.Written.{Length, Short}
 use Rattle.model.proofs.FileWritten.{writable}
 use Rattle.model.proofs.FileLoaded.{loaded_written}
 use Rattle.model.proofs.FileLength.{file-most}

@@ -30,7 +30,7 @@ use Rattle.sources.specs.Separation.{answers_of, area_after, final}
 use Rattle.model.specs.Demand2.{operation_in, Entering}
 use Rattle.model.specs.Rings.{Ringless}
 use Rattle.sources.specs.Rings.{Never21On, NoRingsOn}
-use Rattle.model.specs.declared.Parse.{Parse}
+use Rattle.model.specs.Parse.{Parse}
 use Rattle.model.specs.declared.Family.{Family}
 use Rattle.model.specs.declared.Family.TheVariants.{Write, Copy, Create, Destroy, Activate, Deactivate, Lock, Unlock}
 use Rattle.model.specs.declared.Actor.{Actor}

@@ -13,8 +13,8 @@ use Rattle.model.specs.Effect.{answer_bytes}
 use Rattle.model.specs.Questions.{q11, q12, q13, q14, q15, q16, q17, q18, q19, q20, q21, q22, q23}
 use Rattle.sources.specs.Gate.{Source, config_of, file_source, fresh_on, operate_on}
 use Rattle.model.specs.Gate.{operate}
-use Rattle.model.specs.declared.Reading.{Reading}
-use Rattle.model.specs.declared.Reading.TheVariants.{At, Refused}
+use Rattle.model.specs.Reading.{Reading}
+use Rattle.model.specs.Reading.{At, Refused}
 
 -- a question as it is put: its number, and whether it is a yes
 pub record Question : Type 0 where

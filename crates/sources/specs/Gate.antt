@@ -4,7 +4,7 @@ use Rattle.model.specs.ConfigFile.{load}
 use Rattle.model.specs.State.{records}
 use Rattle.model.specs.Operation.{read_operation}
 use Rattle.model.specs.declared.Config.{Config}
-use Rattle.model.specs.declared.Loaded.{Loaded}
+use Rattle.model.specs.Loaded.{Loaded}
 use Rattle.model.specs.Gate.{freshened, Outcome, operated}
 
 -- document 01, 'What the gate covers' ('The library loads a line file'): what a call works on, that is what was loaded,

@@ -1,7 +1,7 @@
 -- Request N1: a file that is loaded and written again, as C calls it and as the rewriting program does it.
 use Rattle.std.specs.Prelude.{ℕ, ◌≤◌, ◌<◌, ◌≡◌, List, ◌++◌, length, drop}
 use Rattle.model.specs.ConfigFile.{load}
-use Rattle.model.specs.declared.Written.TheVariants.{Length, Short}
+use Rattle.model.specs.Written.{Length, Short}
 use Rattle.model.specs.Rewriting.{coded}
 
 -- document 02, N1, 'a loaded file is written as the bytes it came from': what `gate_rewrite` promises of an accepted

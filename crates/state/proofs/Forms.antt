@@ -1,48 +1,42 @@
--- Question 9: one law for each way out and each turn of the tests.
-use Prim.Native.Nat.{ℕ, zero, suc, ◌+◌, ◌-◌, ◌≤◌, ◌<◌}
+-- Question 9: one law for each way out of the tests of the head, and of the whole.
+use Prim.Native.Nat.{ℕ, zero, suc, ◌≤◌, max}
 use mathlib.Core.Path.{◌≡◌, refl, sym, ap, ◌∙◌}
 use mathlib.Core.List.{List, [], ◌∷◌}
-use mathlib.Core.Bool.{Bool, true, false, not, ◌&&◌, ◌||◌, cond}
-use native.Mathlib.Numerals.{add-one}
+use mathlib.Core.Bool.{Bool, true, false, ◌&&◌, cond}
 use native.Mathlib.Decide.{dec_le}
 use native.Mathlib.Omega.{arith}
-use lib.ListN.{length, get_or}
+use lib.ListN.{length, take}
 use lib.Dec.{leb, eqb}
-use borrow.Author.Tests.{not-true, not-false, leb-true, eqb-true, le-leb, lt-leb, eq-eqb, ne_eqb}
+use borrow.Author.Tests.{eqb-true, le-leb, lt-leb, eq-eqb, ne_eqb}
+use Rattle.std.specs.Prelude.{Option}
+use Rattle.std.specs.Option.{is_none, unwrap_or}
+use Rattle.std.specs.List.{fold, reduce}
 use Rattle.model.specs.Base.{all, every}
 use Rattle.model.specs.Config.{most_drivers, most_devices}
 use Rattle.model.specs.State.{
   partition_count,
-  drivers_from,
-  devices_from,
-  driver_place,
-  device_place,
   State,
   status_of,
   green_status,
-  stands,
   driver_in,
   device_in,
-  existing,
   assigned,
   right_assignment,
+  right_lock,
   right_object,
+  found_or,
+  area_length,
   view,
   well_formed,
   head_formed,
-  found_or,
   first_bad,
 }
-use Rattle.model.specs.declared.Counts.{Counts}
 use Rattle.model.specs.declared.Config.{Config}
-use Rattle.model.proofs.Lists.{and_l, and_r, every_at, every_intro}
+use Rattle.model.proofs.Lists.{and_l, and_r, every_at}
 use Rattle.model.proofs.Walk.{formed_walk}
-use Rattle.model.proofs.SameFile.{every-same}
-use Rattle.model.proofs.StateBytes.{status_byte, driver_byte, device_byte}
-use Rattle.state.specs.Bytes.{AtMost, Highest}
-use Rattle.state.specs.Change.{objects_lent, lent}
-use Rattle.state.specs.Formed.{statuses_right, assignments_right, locks_right, Housed, Named}
-use Rattle.state.proofs.Places.{view_shape, driver_out, device_out}
+use Rattle.state.specs.Change.{lent}
+use Rattle.state.specs.Formed.{statuses_right, assignments_right, locks_right, Housed, found}
+use Rattle.state.proofs.Places.{window_take, driver_out, device_out}
 
 -- tests
 pub same_test : (a b : Bool) → (a ≡ true → b ≡ true) → (b ≡ true → a ≡ true) → a ≡ b
@@ -58,136 +52,64 @@ pub and-true : (a : Bool) → (a && true) ≡ a
 and-true true = refl
 and-true false = refl
 
-module _ (p : ℕ → Bool) where
-  pub every_on : (i : ℕ) → every i p ≡ true → p (i + 1) ≡ true → every (i + 1) p ≡ true
-  every_on i h e = rw (add-one i, h) (rw (add-one i) at e)
-
-  pub every_off : (n i : ℕ) → i < n → p (i + 1) ≡ false → false ≡ every n p
-  every_off zero i h e = absurd (omega arith)
-  every_off (suc n) i h e = go (dec_le (suc i) n) (λ (l : i < n). every_off n i l e)
-    where
-      go : Dec (suc i ≤ n) → (i < n → false ≡ every n p) → false ≡ (every n p && p (suc n))
-      go (yes l) k = rw (← k l)
-      go (no g) k =
-          let f : p (suc n) ≡ false = ap p (omega arith) ∙ e in
-          rw f (and-false (every n p))
-
 -- statuses
-all_at : (p : ℕ → Bool) (l : List ℕ) → all p l ≡ true → (i : ℕ) → i < length l → p (get_or l i 0) ≡ true
-all_at p [] h i k = absurd (omega arith)
-all_at p (x ∷ l) h zero k = and_l (p x) (all p l) h
-all_at p (x ∷ l) h (suc i) k = all_at p l (and_r (p x) (all p l) h) i (omega arith)
+-- all are at most m exactly if the highest is
+highest_all : (l : List ℕ) (x m : ℕ) → leb (fold max x l) m ≡ (leb x m && all (λ s. leb s m) l)
+highest_all [] x m = sym (and-true (leb x m))
+highest_all (y ∷ l) x m =
+    highest_all l (max x y) m ∙ go (dec_le x m) (dec_le y m)
+  where
+    rest : Bool
+    rest = all (λ s. leb s m) l
 
-all_on : (p : ℕ → Bool) (l : List ℕ) → ((i : ℕ) → i < length l → p (get_or l i 0) ≡ true) → all p l ≡ true
-all_on p [] h = refl
-all_on p (x ∷ l) h = rw (h 0 (omega arith)) (all_on p l (λ i k. h (suc i) (omega arith)))
+    go : Dec (x ≤ m) → Dec (y ≤ m) → (leb (max x y) m && rest) ≡ (leb x m && (leb y m && rest))
+    go (yes p) (yes q) = rw (le-leb (max x y) m (omega arith), le-leb x m p, le-leb y m q)
+    go (no p) q = rw (lt-leb (max x y) m (omega arith), lt-leb x m (omega arith))
+    go (yes p) (no q) = rw (lt-leb (max x y) m (omega arith), le-leb x m p, lt-leb y m (omega arith))
 
-module _ (room : ℕ) (s : List ℕ) where
-  pub status-first : (get_or s 0 0 ≡ 0 → ⊥) → false ≡ statuses_right (view room s)
-  unfolding statuses_right
-  status-first h = rw (status_byte room s 0 (omega arith), ne_eqb (get_or s 0 0) 0 h)
+highest_some : (l : List ℕ) (m : ℕ) → leb (unwrap_or (reduce max l) 0) m ≡ all (λ s. leb s m) l
+highest_some [] m = le-leb 0 m (omega arith)
+highest_some (x ∷ l) m = highest_all l x m
 
-  pub status-rest : (t : ℕ) → get_or s 0 0 ≡ 0 → Highest s 0 partition_count t
-      → leb t green_status ≡ statuses_right (view room s)
-  unfolding statuses_right AtMost
-  status-rest t z h =
-      let f : eqb (status_of (view room s) 0) 0 ≡ true =
-      eq-eqb (status_of (view room s) 0) 0 (status_byte room s 0 (omega arith) ∙ z) in
-      rw f (same_test (leb t green_status) (all (λ v. leb v green_status) (view room s).status) low high)
-    where
-      low : leb t green_status ≡ true → all (λ v. leb v green_status) (view room s).status ≡ true
-      low e =
-          all_on (λ v. leb v green_status) (view room s).status
-          (λ j q.
-          let w : j < partition_count = omega (arith, (view_shape room s).statuses) in
-          let x : get_or s j 0 ≤ green_status = omega (arith, leb-true t green_status e, h.above j (omega arith) w) in
-          rw (status_byte room s j w) (le-leb (get_or s j 0) green_status x))
+pub status-first : (b : State) (v : ℕ) → v ≡ status_of b 0 → (v ≡ 0 → ⊥) → eqb v 0 ≡ statuses_right b
+unfolding statuses_right
+status-first b v e h = rw (← e, ne_eqb v 0 h)
 
-      high : all (λ v. leb v green_status) (view room s).status ≡ true → leb t green_status ≡ true
-      high e =
-          le-leb t green_status (h.least green_status (λ j l w.
-          let x : leb (status_of (view room s) j) green_status ≡ true =
-          all_at (λ v. leb v green_status) (view room s).status e j (omega (arith, (view_shape room s).statuses)) in
-          leb-true (get_or s j 0) green_status (rw (status_byte room s j w) at x)))
+pub status-rest : (room : ℕ) (s : List ℕ) (v t : ℕ) (r : Option ℕ) → length s ≡ area_length room
+    → v ≡ status_of (view room s) 0 → v ≡ 0 → r ≡ reduce max (take partition_count s) → t ≡ unwrap_or r 0
+    → leb t green_status ≡ statuses_right (view room s)
+unfolding statuses_right view
+status-rest room s v t r l e z h f =
+    rw (← e, z, f, h)
+    (highest_some (take partition_count s) green_status
+    ∙ ap (all (λ x. leb x green_status)) (sym (window_take partition_count s (omega arith))))
 
--- partition bytes, by a table of what they name
-module _ (b : State) (s : List ℕ) (before : ℕ) where
-  abbrev pub byte : ℕ → ℕ
-  byte n = get_or s (before + n) 0
+-- a test that is put where those before it, whose answer is t, were met; and one that is not
+pub met : (t u v x y : Bool) → t ≡ x → t ≡ true → u ≡ y → v ≡ u → v ≡ (x && y)
+met t u v x y e h f g = rw (← e, h) (g ∙ f)
 
-  -- the first k are none, or name existing partitions
-  unfoldable pub assigned_to : ℕ → Bool
-  assigned_to k = every k (λ n. assigned b (byte n))
+pub unmet : (t v x y : Bool) → t ≡ x → t ≡ false → v ≡ t → v ≡ (x && y)
+unmet t v x y e h g = rw (← e, h) (g ∙ h)
 
-  pub assigned_none : assigned_to 0 ≡ true
-  unfolding assigned_to
-  assigned_none = refl
+and_assoc : (a b c d : Bool) → (((a && b) && c) && d) ≡ ((a && (b && c)) && d)
+and_assoc true true c d = refl
+and_assoc true false c d = refl
+and_assoc false b c d = refl
 
-  module _ (t : List ℕ) (named : Named b t) (i : ℕ) (r : Bool) (e : r ≡ stands (get_or t (byte (i + 1)) 0)) where
-    told : r ≡ assigned b (byte (i + 1))
-    unfolding Named
-    told = e ∙ named (byte (i + 1))
+-- the parts of the head
+pub parts_head : (config : Config) (b : State)
+    → head_formed config b ≡ ((statuses_right b && assignments_right config b) && locks_right config b)
+unfolding head_formed statuses_right assignments_right locks_right
+parts_head config b =
+    and_assoc (eqb (status_of b 0) 0 && all (λ s. leb s green_status) b.status)
+    (every most_drivers (λ d. right_assignment b config.counts.drivers d (driver_in b d)))
+    (every most_devices (λ c. right_assignment b config.counts.devices c (device_in b c)))
+    (every most_devices (λ c. right_lock config b c))
 
-    pub assigned_on : not r ≡ false → assigned_to i ≡ true → assigned_to (i + 1) ≡ true
-    unfolding assigned_to
-    assigned_on x h = every_on (λ n. assigned b (byte n)) i h (sym told ∙ not-false r x)
-
-    pub assignments_off : (many slots : ℕ) → not r ≡ true → i < slots → false ≡ assignments_right b s before many slots
-    unfolding assignments_right
-    assignments_off many slots x h =
-        every_off (λ n. right_assignment b many n (byte n)) slots i h
-        (go (leb (i + 1) many) (eqb (byte (i + 1)) 0) (sym told ∙ not-true r x))
-      where
-        go : (q z : Bool) → (z || existing b (byte (i + 1))) ≡ false
-            → cond q (z || existing b (byte (i + 1))) z ≡ false
-        go true z f = f
-        go false true f = f
-        go false false f = refl
-
-  module _ (many slots i : ℕ) (low : i ≤ slots) (high : slots ≤ i) (h : assigned_to i ≡ true) where
-    each : (n : ℕ) → 1 ≤ n → n ≤ slots → assigned b (byte n) ≡ true
-    unfolding assigned_to
-    each n l u = every_at i (λ n. assigned b (byte n)) h n l (omega arith)
-
-    pub assignments_many : slots < many → true ≡ assignments_right b s before many slots
-    unfolding assignments_right
-    assignments_many m =
-        sym (every_intro slots (λ n. right_assignment b many n (byte n)) (λ n l u.
-        rw (le-leb n many (omega arith)) (each n l u)))
-
-    -- behind those that there are, the highest byte is 0
-    pub assignments_end : (t : ℕ) → many ≤ slots → Highest s (before + many + 1) (before + slots + 1) t
-        → eqb t 0 ≡ assignments_right b s before many slots
-    unfolding assignments_right AtMost
-    assignments_end t m top =
-        same_test (eqb t 0) (every slots (λ n. right_assignment b many n (byte n))) on back
-      where
-        on : eqb t 0 ≡ true → every slots (λ n. right_assignment b many n (byte n)) ≡ true
-        on e = every_intro slots (λ n. right_assignment b many n (byte n)) (λ n l u. go n l u (dec_le n many))
-          where
-            go : (n : ℕ) → 1 ≤ n → n ≤ slots → Dec (n ≤ many) → right_assignment b many n (byte n) ≡ true
-            go n l u (yes q) = rw (le-leb n many q) (each n l u)
-            go n l u (no q) =
-                let z : byte n ≡ 0 =
-                omega (arith, eqb-true t 0 e, top.above (before + n) (omega arith) (omega arith)) in
-                rw (lt-leb n many (omega arith)) (eq-eqb (byte n) 0 z)
-
-        back : every slots (λ n. right_assignment b many n (byte n)) ≡ true → eqb t 0 ≡ true
-        back e = eq-eqb t 0 (omega (arith, top.least 0 zero_byte))
-          where
-            zero_byte : (j : ℕ) → before + many + 1 ≤ j → j < before + slots + 1 → get_or s j 0 ≤ 0
-            zero_byte j l u =
-                let n : ℕ = j - before in
-                let w : right_assignment b many n (byte n) ≡ true =
-                every_at slots (λ n. right_assignment b many n (byte n)) e n (omega arith) (omega arith) in
-                let x : eqb (byte n) 0 ≡ true = rw (lt-leb n many (omega arith)) at w in
-                let y : get_or s j 0 ≡ byte n = ap (λ (k : ℕ). get_or s k 0) (omega arith) in
-                omega (arith, eqb-true (byte n) 0 x, y)
-
--- every driver and every device is in no partition or in an existing one
-module _ (room : ℕ) (s : List ℕ) (many : ℕ) where
-  loose : (n p : ℕ) → right_assignment (view room s) many n p ≡ true → assigned (view room s) p ≡ true
-  loose n p e = go (leb n many) e
+-- a head found good: every driver and every device is in no partition or in an existing one
+module _ (room : ℕ) (s : List ℕ) (config : Config) where
+  loose : (many n p : ℕ) → right_assignment (view room s) many n p ≡ true → assigned (view room s) p ≡ true
+  loose many n p e = go (leb n many) e
     where
       go : (t : Bool) → cond t (assigned (view room s) p) (eqb p 0) ≡ true → assigned (view room s) p ≡ true
       go true e = e
@@ -196,51 +118,70 @@ module _ (room : ℕ) (s : List ℕ) (many : ℕ) where
   unlisted : (p : ℕ) → 0 ≡ p → assigned (view room s) p ≡ true
   unlisted p e = rw (eq-eqb p 0 (sym e))
 
-  drivers_housed : assignments_right (view room s) s (drivers_from - 1) many most_drivers ≡ true → (n : ℕ)
-      → assigned (view room s) (driver_in (view room s) n) ≡ true
-  unfolding assignments_right
-  drivers_housed h zero = refl
-  drivers_housed h (suc n) = go (dec_le (suc n) most_drivers)
-    where
-      go : Dec (suc n ≤ most_drivers) → assigned (view room s) (driver_in (view room s) (suc n)) ≡ true
-      go (yes q) =
-          rw (driver_byte room s (suc n) (omega arith) q)
-          (loose (suc n) (get_or s (driver_place (suc n)) 0)
-          (every_at most_drivers (λ d. right_assignment (view room s) many d (get_or s (driver_place d) 0)) h (suc n)
-          (omega arith) q))
-      go (no q) = unlisted (driver_in (view room s) (suc n)) (driver_out room s (suc n) (omega arith))
+  module _ (h : assignments_right config (view room s) ≡ true) where
+    drivers : every most_drivers (λ d. right_assignment (view room s) config.counts.drivers d
+        (driver_in (view room s) d)) ≡ true
+    unfolding assignments_right
+    drivers = and_l _ _ h
 
-  devices_housed : assignments_right (view room s) s (devices_from - 1) many most_devices ≡ true → (n : ℕ)
-      → assigned (view room s) (device_in (view room s) n) ≡ true
-  unfolding assignments_right
-  devices_housed h zero = refl
-  devices_housed h (suc n) = go (dec_le (suc n) most_devices)
+    devices : every most_devices (λ c. right_assignment (view room s) config.counts.devices c
+        (device_in (view room s) c)) ≡ true
+    unfolding assignments_right
+    devices = and_r _ _ h
+
+    driver_housed : (n : ℕ) → assigned (view room s) (driver_in (view room s) n) ≡ true
+    driver_housed zero = refl
+    driver_housed (suc n) = go (dec_le (suc n) most_drivers)
+      where
+        go : Dec (suc n ≤ most_drivers) → assigned (view room s) (driver_in (view room s) (suc n)) ≡ true
+        go (yes q) =
+            loose config.counts.drivers (suc n) (driver_in (view room s) (suc n))
+            (every_at most_drivers (λ d. right_assignment (view room s) config.counts.drivers d
+            (driver_in (view room s) d)) drivers (suc n) (omega arith) q)
+        go (no q) = unlisted (driver_in (view room s) (suc n)) (driver_out room s (suc n) (omega arith))
+
+    device_housed : (n : ℕ) → assigned (view room s) (device_in (view room s) n) ≡ true
+    device_housed zero = refl
+    device_housed (suc n) = go (dec_le (suc n) most_devices)
+      where
+        go : Dec (suc n ≤ most_devices) → assigned (view room s) (device_in (view room s) (suc n)) ≡ true
+        go (yes q) =
+            loose config.counts.devices (suc n) (device_in (view room s) (suc n))
+            (every_at most_devices (λ c. right_assignment (view room s) config.counts.devices c
+            (device_in (view room s) c)) devices (suc n) (omega arith) q)
+        go (no q) = unlisted (device_in (view room s) (suc n)) (device_out room s (suc n) (omega arith))
+
+  pub housed : (t : Bool) → t ≡ head_formed config (view room s) → t ≡ true → Housed (view room s)
+  unfolding Housed
+  housed t e x = λ n. (driver_housed here n, device_housed here n)
     where
-      go : Dec (suc n ≤ most_devices) → assigned (view room s) (device_in (view room s) (suc n)) ≡ true
-      go (yes q) =
-          rw (device_byte room s (suc n) (omega arith) q)
-          (loose (suc n) (get_or s (device_place (suc n)) 0)
-          (every_at most_devices (λ c. right_assignment (view room s) many c (get_or s (device_place c) 0)) h (suc n)
-          (omega arith) q))
-      go (no q) = unlisted (device_in (view room s) (suc n)) (device_out room s (suc n) (omega arith))
+      right : Bool
+      right = statuses_right (view room s)
+
+      assigns : Bool
+      assigns = assignments_right config (view room s)
+
+      here : assigns ≡ true
+      here =
+          and_r right assigns (and_l (right && assigns) (locks_right config (view room s))
+          (sym (parts_head config (view room s)) ∙ (sym e ∙ x)))
+
+none_found : (k : ℕ) → is_none (found k) ≡ eqb k 0
+unfolding found
+none_found zero = refl
+none_found (suc k) = sym (ne_eqb (suc k) 0 (λ e. omega arith))
 
 -- the whole
-module _ (room : ℕ) (s : List ℕ) (many : ℕ) where
-  drivers-same : assignments_right (view room s) s (drivers_from - 1) many most_drivers
-      ≡ every most_drivers (λ d. right_assignment (view room s) many d (driver_in (view room s) d))
-  unfolding assignments_right
-  drivers-same =
-      every-same most_drivers (λ d. right_assignment (view room s) many d (get_or s (driver_place d) 0))
-      (λ d. right_assignment (view room s) many d (driver_in (view room s) d))
-      (λ d l u. ap (λ (p : ℕ). right_assignment (view room s) many d p) (sym (driver_byte room s d l u)))
+module _ (room : ℕ) (config : Config) (b : State) (t : Bool) (f : t ≡ head_formed config b) where
+  by_walk : well_formed room config b ≡ (t && eqb (first_bad room config b) 0)
+  by_walk = formed_walk room config b ∙ rw f
 
-  devices-same : assignments_right (view room s) s (devices_from - 1) many most_devices
-      ≡ every most_devices (λ c. right_assignment (view room s) many c (device_in (view room s) c))
-  unfolding assignments_right
-  devices-same =
-      every-same most_devices (λ c. right_assignment (view room s) many c (get_or s (device_place c) 0))
-      (λ c. right_assignment (view room s) many c (device_in (view room s) c))
-      (λ c l u. ap (λ (p : ℕ). right_assignment (view room s) many c p) (sym (device_byte room s c l u)))
+  pub formed_head : t ≡ false → t ≡ well_formed room config b
+  formed_head x = rw x (sym (by_walk ∙ rw x))
+
+  pub formed_records : (r : Option ℕ) (v : Bool) → t ≡ true → r ≡ found (first_bad room config b) → v ≡ is_none r
+      → v ≡ well_formed room config b
+  formed_records r v x e g = g ∙ (ap is_none e ∙ (none_found (first_bad room config b) ∙ sym (by_walk ∙ rw x)))
 
 -- configurations with the same rules of records have the same walk
 walk_same : (room : ℕ) (c d : Config) (b : State) → ((n : ℕ) → right_object c b n ≡ right_object d b n)
@@ -249,94 +190,7 @@ unfolding first_bad
 walk_same zero c d b h = refl
 walk_same (suc n) c d b h = λ i. found_or (walk_same n c d b h i) (h (suc n) i) (suc n)
 
--- the walk asks of a configuration only what is lent
-walk_lent : (room : ℕ) (counts : Counts) (kind class owner hardcoded : List ℕ) (b : State)
-    → first_bad room (objects_lent counts.objects counts.values kind class owner hardcoded) b
-    ≡ first_bad room (lent counts kind class owner hardcoded) b
-unfolding objects_lent lent
-walk_lent room counts kind class owner hardcoded b =
-    walk_same room (objects_lent counts.objects counts.values kind class owner hardcoded)
-    (lent counts kind class owner hardcoded) b (λ n. refl)
-
-pub walk_whole : (room : ℕ) (counts : Counts) (kind class owner hardcoded : List ℕ) (b : State) (r : ℕ)
-    → r ≡ first_bad room (objects_lent counts.objects counts.values kind class owner hardcoded) b
-    → r ≡ first_bad room (lent counts kind class owner hardcoded) b
-walk_whole room counts kind class owner hardcoded b r e = e ∙ walk_lent room counts kind class owner hardcoded b
-
-module _ (room : ℕ) (counts : Counts) (s : List ℕ) where
-  abbrev counted : Config
-  counted = lent counts [] [] [] []
-
-  abbrev drivers : Bool
-  drivers = assignments_right (view room s) s (drivers_from - 1) counts.drivers most_drivers
-
-  abbrev devices : Bool
-  devices = assignments_right (view room s) s (devices_from - 1) counts.devices most_devices
-
-  abbrev locks : Bool
-  locks = locks_right counted (view room s)
-
-  parts_head : head_formed counted (view room s) ≡ (((statuses_right (view room s) && drivers) && devices) && locks)
-  unfolding head_formed lent statuses_right locks_right
-  parts_head = rw (drivers-same room s counts.drivers, devices-same room s counts.devices)
-
-  module _ (t : Bool) (f : t ≡ statuses_right (view room s)) where
-    pub head_status : not t ≡ true → false ≡ head_formed counted (view room s)
-    head_status x = sym (parts_head ∙ rw (← f, not-true t x))
-
-    module _ (y : not t ≡ false) (u : Bool) (g : u ≡ drivers) where
-      pub head_drivers : not u ≡ true → false ≡ head_formed counted (view room s)
-      head_drivers x = sym (parts_head ∙ rw (← f, not-false t y, ← g, not-true u x))
-
-      module _ (x : not u ≡ false) (v : Bool) (e : v ≡ devices) where
-        pub head_devices : not v ≡ true → false ≡ head_formed counted (view room s)
-        head_devices z = sym (parts_head ∙ rw (← f, not-false t y, ← g, not-false u x, ← e, not-true v z))
-
-        pub head_locks : (w : Bool) → not v ≡ false → w ≡ locks → w ≡ head_formed counted (view room s)
-        head_locks w z k =
-            k ∙ sym (parts_head ∙ rw (← f, not-false t y, ← g, not-false u x, ← e, not-false v z))
-
-  -- a head found good
-  pub housed : (t : Bool) → t ≡ head_formed counted (view room s) → not t ≡ false → Housed (view room s)
-  unfolding Housed
-  housed t e x =
-      λ n. (
-        drivers_housed room s counts.drivers (and_r right drivers (and_l (right && drivers) devices first_three)) n,
-        devices_housed room s counts.devices (and_r (right && drivers) devices first_three) n,
-      )
-    where
-      right : Bool
-      right = statuses_right (view room s)
-
-      first_three : ((right && drivers) && devices) ≡ true
-      first_three = and_l ((right && drivers) && devices) locks (sym parts_head ∙ (sym e ∙ not-false t x))
-
-  module _ (kind class owner hardcoded : List ℕ) (t : Bool) (f : t ≡ head_formed counted (view room s)) where
-    abbrev parts : Config
-    parts = lent counts kind class owner hardcoded
-
-    by_walk : well_formed room parts (view room s) ≡ (t && eqb (first_bad room parts (view room s)) 0)
-    unfolding head_formed lent
-    by_walk = formed_walk room parts (view room s) ∙ rw f
-
-    pub formed_head : not t ≡ true → false ≡ well_formed room parts (view room s)
-    formed_head x = sym (by_walk ∙ rw (not-true t x))
-
-    pub formed-records : (r : ℕ) → not t ≡ false
-        → r ≡ first_bad room (objects_lent counts.objects counts.values kind class owner hardcoded) (view room s)
-        → eqb r 0 ≡ well_formed room parts (view room s)
-    formed-records r x e =
-        ap (λ (k : ℕ). eqb k 0) (e ∙ walk_lent room counts kind class owner hardcoded (view room s))
-        ∙ sym (by_walk ∙ rw (not-false t x))
-
--- a configuration's parts are as good as the whole
-pub whole-formed : (room : ℕ) (config : Config) (b : State) (r : Bool)
-    → r ≡ well_formed room (lent config.counts config.objects.kind config.objects.class
-    config.objects.owner config.devices.hardcoded) b
-    → r ≡ well_formed room config b
-unfolding well_formed lent
-whole-formed room config b r e = e
-
+-- the walk asks of a configuration its counts and four of its columns only
 pub whole_walk : (room : ℕ) (config : Config) (b : State) (r : ℕ)
     → r ≡ first_bad room (lent config.counts config.objects.kind config.objects.class
     config.objects.owner config.devices.hardcoded) b

@@ -1,14 +1,12 @@
 -- A column that is changed by its numbers, where the numbers behind the first k change nothing. Assumes nothing.
-use Prim.Native.Nat.{ℕ, zero, suc, ◌+◌, ◌≤◌, ◌<◌}
+use Prim.Native.Nat.{ℕ, zero, suc, ◌+◌, ◌≤◌, ◌<◌, min}
 use mathlib.Core.Path.{◌≡◌, refl, sym, ap}
 use mathlib.Core.Logic.{◌⊎◌, inl, inr}
 use mathlib.Core.List.{List, [], ◌∷◌, ◌++◌}
-use native.Mathlib.Nat.{le_refl}
 use native.Mathlib.Decide.{dec_le}
 use native.Mathlib.Omega.{arith}
 use lib.ListN.{get_or, take, drop}
 use Rattle.model.specs.Base.{number}
-use Rattle.state.specs.Bytes.{Lesser}
 
 module _ {A : Type 0} (f : ℕ → A → A) (d : A) where
   idle : (j : ℕ) (l : List A) → ((m i : ℕ) → j < m → f m (get_or l i d) ≡ get_or l i d) → l ≡ number j f l
@@ -24,10 +22,9 @@ module _ {A : Type 0} (f : ℕ → A → A) (d : A) where
       ap (λ (s : List A). f (suc j) a ∷ s) (idle_rest (suc j) k l (λ m n q. h m (suc n) (omega arith)))
 
 -- a loop to the lesser of two has come to the one or to the other
-pub lesser_end : (objects room present i : ℕ) → Lesser objects room present → present ≤ i
-    → (objects ≤ i) ⊎ (room ≤ i)
-lesser_end objects room present i p h = go (dec_le objects room)
+pub min_end : (objects room i : ℕ) → min room objects ≤ i → (objects ≤ i) ⊎ (room ≤ i)
+min_end objects room i h = go (dec_le objects i)
   where
-    go : Dec (objects ≤ room) → (objects ≤ i) ⊎ (room ≤ i)
-    go (yes l) = inl (omega (arith, p.greatest objects (le_refl objects) l))
-    go (no g) = inr (omega (arith, p.greatest room (omega arith) (le_refl room)))
+    go : Dec (objects ≤ i) → (objects ≤ i) ⊎ (room ≤ i)
+    go (yes q) = inl q
+    go (no q) = inr (omega arith)

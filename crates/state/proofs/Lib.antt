@@ -1,5 +1,4 @@
 pub mod Splicing
-pub mod Runs
 pub mod Places
 pub mod Forms
 pub mod Words

@@ -1,12 +1,17 @@
 -- What a byte of an area is in its state, read and stored, for every number: in range and past it.
-use Prim.Native.Nat.{ℕ, zero, suc, ◌+◌, ◌-◌, ◌≤◌, ◌<◌}
+use Prim.Native.Nat.{ℕ, zero, suc, ◌+◌, ◌-◌, ◌*◌, ◌≤◌, ◌<◌}
 use mathlib.Core.Path.{◌≡◌, refl, sym, ap, ◌∙◌}
 use mathlib.Core.List.{List, [], ◌∷◌}
+use mathlib.Core.Logic.{◌⊎◌, inl, inr}
+use mathlib.Core.Bool.{Bool, true, false, ◌&&◌, cond}
+use native.Mathlib.Decide.{dec_le}
 use native.Mathlib.Omega.{arith}
 use lib.ListN.{length, get_or, take, drop, set, length-drop, get_or-eq_default}
 use lib.Seq.{sets, sets-eq, set_out, get_or-drop}
+use lib.Dec.{leb}
+use borrow.Author.Tests.{le-leb, lt-leb}
 use Rattle.model.specs.Base.{put}
-use Rattle.model.specs.Config.{most_drivers, most_devices}
+use Rattle.model.specs.Config.{most_drivers, most_devices, from1to}
 use Rattle.model.specs.State.{
   content_bytes,
   partition_count,
@@ -52,6 +57,7 @@ use Rattle.model.proofs.StateBytes.{
   store_content,
   store_lock,
 }
+use Rattle.state.specs.Bytes.{byte_of, with_byte}
 use Rattle.state.specs.Splice.{splice, part}
 use Rattle.state.specs.Change.{with_status, with_driver, with_device, with_object, with_content, with_lock}
 
@@ -100,32 +106,37 @@ module _ (room : ℕ) (s : List ℕ) where
   pub status_out : (p : ℕ) → partition_count ≤ p → 0 ≡ status_of (view room s) p
   status_out p h = sym (get_or-eq_default (view room s).status 0 (omega (arith, (view_shape room s).statuses)))
 
-  pub driver_in_lem : (d : ℕ) → (d ≡ 0 → ⊥) → d ≤ most_drivers → get_or s (driver_place d) 0 ≡ driver_in (view room s) d
+  driver_in_lem : (d : ℕ) → (d ≡ 0 → ⊥) → d ≤ most_drivers → get_or s (driver_place d) 0 ≡ driver_in (view room s) d
   driver_in_lem d h k = sym (driver_byte room s d (omega arith) k)
 
   pub driver_out : (d : ℕ) → most_drivers < d → 0 ≡ driver_in (view room s) d
   driver_out d h = sym (nth_past (view room s).driver d 0 (omega (arith, (view_shape room s).drivers)))
 
-  pub device_in_lem : (c : ℕ) → (c ≡ 0 → ⊥) → c ≤ most_devices → get_or s (device_place c) 0 ≡ device_in (view room s) c
+  device_in_lem : (c : ℕ) → (c ≡ 0 → ⊥) → c ≤ most_devices → get_or s (device_place c) 0 ≡ device_in (view room s) c
   device_in_lem c h k = sym (device_byte room s c (omega arith) k)
 
   pub device_out : (c : ℕ) → most_devices < c → 0 ≡ device_in (view room s) c
   device_out c h = sym (nth_past (view room s).device c 0 (omega (arith, (view_shape room s).devices)))
 
-  pub lock_in : (c : ℕ) → (c ≡ 0 → ⊥) → c ≤ most_devices → get_or s (lock_place room c) 0 ≡ lock_of (view room s) c
+  lock_in : (c : ℕ) → (c ≡ 0 → ⊥) → c ≤ most_devices → get_or s (lock_place room c) 0 ≡ lock_of (view room s) c
   lock_in c h k = sym (lock_byte room s c (omega arith) k)
 
-  pub lock_out : (c : ℕ) → most_devices < c → 0 ≡ lock_of (view room s) c
+  lock_out : (c : ℕ) → most_devices < c → 0 ≡ lock_of (view room s) c
   lock_out c h = sym (nth_past (view room s).lock c 0 (omega (arith, (view_shape room s).locks)))
 
-  pub object_in_lem : (n : ℕ) → (n ≡ 0 → ⊥) → n ≤ room → get_or s (object_place n) 0 ≡ object_in (view room s) n
+  object_in_lem : (n : ℕ) → (n ≡ 0 → ⊥) → n ≤ room → get_or s (object_place n) 0 ≡ object_in (view room s) n
   object_in_lem n h k = sym (object_byte room s n (omega arith) k)
 
-  pub object_out : (n : ℕ) → room < n → 0 ≡ object_in (view room s) n
+  object_out : (n : ℕ) → room < n → 0 ≡ object_in (view room s) n
   object_out n h = sym (nth_past (view room s).object n 0 (omega (arith, (view_shape room s).objects)))
 
-  pub content_out : (n : ℕ) → room < n → cleared ≡ content_of (view room s) n
+  content_out : (n : ℕ) → room < n → cleared ≡ content_of (view room s) n
   content_out n h = sym (nth_past (view room s).content n cleared (omega (arith, (view_shape room s).contents)))
+
+  pub content-absent : (n : ℕ) → (n < 1) ⊎ (room < n) → cleared ≡ content_of (view room s) n
+  content-absent zero h = refl
+  content-absent (suc n) (inl h) = absurd (omega arith)
+  content-absent (suc n) (inr h) = content_out (suc n) h
 
   pub content_in : (n : ℕ) (r : List ℕ) → length s ≡ area_length room → (n ≡ 0 → ⊥) → n ≤ room
       → r ≡ part s (content_place n) content_bytes → r ≡ content_of (view room s) n
@@ -134,19 +145,87 @@ module _ (room : ℕ) (s : List ℕ) where
       e ∙ sym (content-bytes room s n (omega arith) k
       ∙ window_take content_bytes (drop (content_place n) s) (omega (arith, length-drop (content_place n) s)))
 
-  pub value_out : (n : ℕ) → room < n → 0 ≡ held (view room s) n
+  value_out : (n : ℕ) → room < n → 0 ≡ held (view room s) n
   value_out n h = ap (λ (c : List ℕ). get_or c 0 0) (content_out n h)
 
   first-window : (k : ℕ) (l : List ℕ) → get_or (window (suc k) l) 0 0 ≡ get_or l 0 0
   first-window k [] = refl
   first-window k (x ∷ l) = refl
 
-  pub value_in_lem : (n : ℕ) → (n ≡ 0 → ⊥) → n ≤ room → get_or s (content_place n) 0 ≡ held (view room s) n
+  value_in_lem : (n : ℕ) → (n ≡ 0 → ⊥) → n ≤ room → get_or s (content_place n) 0 ≡ held (view room s) n
   value_in_lem n h k =
       let z : content_place n + 0 ≡ content_place n = omega arith in
       sym (ap (λ (c : List ℕ). get_or c 0 0) (content-bytes room s n (omega arith) k)
       ∙ (first-window (content_bytes - 1) (drop (content_place n) s)
       ∙ (get_or-drop (content_place n) s 0 0 ∙ ap (λ (i : ℕ). get_or s i 0) z)))
+
+-- what a number from 1 to `many` gives, and what another one does
+out : (n many : ℕ) → (n < 1) ⊎ (many < n) → from1to n many ≡ false
+out n many (inl h) = rw (lt-leb 1 n h)
+out n many (inr h) = rw (lt-leb n many h) (sym (and-false (leb 1 n)))
+  where
+    and-false : (a : Bool) → false ≡ (a && false)
+    and-false true = refl
+    and-false false = refl
+
+by_number : {A : Type 0} (many : ℕ) (x : ℕ → A) (y : A) (f : ℕ → A) → y ≡ f 0
+    → ((n : ℕ) → (n ≡ 0 → ⊥) → n ≤ many → x n ≡ f n) → ((n : ℕ) → many < n → y ≡ f n) → (n : ℕ)
+    → cond (from1to n many) (x n) y ≡ f n
+by_number many x y f z h k zero = z
+by_number many x y f z h k (suc n) = go (dec_le (suc n) many)
+  where
+    low : leb 1 (suc n) ≡ true
+    low = le-leb 1 (suc n) (omega arith)
+
+    go : Dec (suc n ≤ many) → cond (from1to (suc n) many) (x (suc n)) y ≡ f (suc n)
+    go (yes q) = rw (low, le-leb (suc n) many q) (h (suc n) (λ e. omega arith) q)
+    go (no q) = rw (low, lt-leb (suc n) many (omega arith)) (k (suc n) (omega arith))
+
+module _ (s : List ℕ) (before step many n : ℕ) where
+  pub byte-in : 1 ≤ n → n ≤ many → get_or s (before + step * n) 0 ≡ byte_of s before step many n
+  unfolding byte_of
+  byte-in l h = rw (le-leb 1 n l, le-leb n many h)
+
+  pub byte-out : (n < 1) ⊎ (many < n) → 0 ≡ byte_of s before step many n
+  unfolding byte_of
+  byte-out h = rw (out n many h)
+
+  pub byte-stored : (v : ℕ) → 1 ≤ n → n ≤ many → set s (before + step * n) v ≡ with_byte s before step many n v
+  unfolding with_byte
+  byte-stored v l h = rw (le-leb 1 n l, le-leb n many h)
+
+  pub byte-kept : (v : ℕ) → (n < 1) ⊎ (many < n) → s ≡ with_byte s before step many n v
+  unfolding with_byte
+  byte-kept v h = rw (out n many h)
+
+-- numbered bytes of an area
+module _ (room : ℕ) (s : List ℕ) where
+  pub driver_shown : (d : ℕ) → byte_of s (drivers_from - 1) 1 most_drivers d ≡ driver_in (view room s) d
+  unfolding byte_of
+  driver_shown = by_number most_drivers (λ n. get_or s ((drivers_from - 1) + 1 * n) 0) 0 (driver_in (view room s)) refl
+      (λ n h k. ap (λ (i : ℕ). get_or s i 0) (omega arith) ∙ driver_in_lem room s n h k) (driver_out room s)
+
+  pub device_shown : (c : ℕ) → byte_of s (devices_from - 1) 1 most_devices c ≡ device_in (view room s) c
+  unfolding byte_of
+  device_shown = by_number most_devices (λ n. get_or s ((devices_from - 1) + 1 * n) 0) 0 (device_in (view room s)) refl
+      (λ n h k. ap (λ (i : ℕ). get_or s i 0) (omega arith) ∙ device_in_lem room s n h k) (device_out room s)
+
+  pub lock_shown : (c : ℕ)
+      → byte_of s ((records_from - 1) + record_bytes * room) 1 most_devices c ≡ lock_of (view room s) c
+  unfolding byte_of
+  lock_shown = by_number most_devices (λ n. get_or s (((records_from - 1) + record_bytes * room) + 1 * n) 0) 0
+      (lock_of (view room s)) refl
+      (λ n h k. ap (λ (i : ℕ). get_or s i 0) (omega arith) ∙ lock_in room s n h k) (lock_out room s)
+
+  pub object_shown : (n : ℕ) → byte_of s (records_from - record_bytes) record_bytes room n ≡ object_in (view room s) n
+  unfolding byte_of
+  object_shown = by_number room (λ n. get_or s (object_place n) 0) 0 (object_in (view room s)) refl
+      (object_in_lem room s) (object_out room s)
+
+  pub value_shown : (n : ℕ) → byte_of s (records_from - content_bytes) record_bytes room n ≡ held (view room s) n
+  unfolding byte_of
+  value_shown = by_number room (λ n. get_or s (content_place n) 0) 0 (held (view room s)) refl (value_in_lem room s)
+      (value_out room s)
 
 -- stores: s is the area, with the right length
 module _ (room : ℕ) (s : List ℕ) (fits : length s ≡ area_length room) where
@@ -162,7 +241,7 @@ module _ (room : ℕ) (s : List ℕ) (fits : length s ≡ area_length room) wher
   unfolding with_status
   status-kept p v h = rw (set_out (view room s).status p v (omega (arith, (view_shape room s).statuses))) (sym whole)
 
-  pub driver-stored : (d v : ℕ) → (d ≡ 0 → ⊥) → d ≤ most_drivers
+  driver-stored : (d v : ℕ) → (d ≡ 0 → ⊥) → d ≤ most_drivers
       → set s (driver_place d) v ≡ layout (with_driver (view room s) d v)
   unfolding with_driver
   driver-stored d v h k = ap (λ (l : List ℕ). set l (driver_place d) v) (sym whole)
@@ -172,53 +251,53 @@ module _ (room : ℕ) (s : List ℕ) (fits : length s ≡ area_length room) wher
   put_out l zero v h = refl
   put_out l (suc n) v h = set_out l n v (omega arith)
 
-  pub driver-kept : (d v : ℕ) → most_drivers < d → s ≡ layout (with_driver (view room s) d v)
+  driver-kept : (d v : ℕ) → most_drivers < d → s ≡ layout (with_driver (view room s) d v)
   unfolding with_driver
   driver-kept d v h = rw (put_out (view room s).driver d v (omega (arith, (view_shape room s).drivers))) (sym whole)
 
-  pub driver_zero : (d v : ℕ) → d ≡ 0 → s ≡ layout (with_driver (view room s) d v)
+  driver_zero : (d v : ℕ) → d ≡ 0 → s ≡ layout (with_driver (view room s) d v)
   unfolding with_driver
   driver_zero d v e = rw e (sym whole)
 
-  pub device-stored : (c v : ℕ) → (c ≡ 0 → ⊥) → c ≤ most_devices
+  device-stored : (c v : ℕ) → (c ≡ 0 → ⊥) → c ≤ most_devices
       → set s (device_place c) v ≡ layout (with_device (view room s) c v)
   unfolding with_device
   device-stored c v h k = ap (λ (l : List ℕ). set l (device_place c) v) (sym whole)
       ∙ store_device room (view room s) (view_shape room s) c v (omega arith) k
 
-  pub device-kept : (c v : ℕ) → most_devices < c → s ≡ layout (with_device (view room s) c v)
+  device-kept : (c v : ℕ) → most_devices < c → s ≡ layout (with_device (view room s) c v)
   unfolding with_device
   device-kept c v h = rw (put_out (view room s).device c v (omega (arith, (view_shape room s).devices))) (sym whole)
 
-  pub device_zero : (c v : ℕ) → c ≡ 0 → s ≡ layout (with_device (view room s) c v)
+  device_zero : (c v : ℕ) → c ≡ 0 → s ≡ layout (with_device (view room s) c v)
   unfolding with_device
   device_zero c v e = rw e (sym whole)
 
-  pub lock-stored : (c v : ℕ) → (c ≡ 0 → ⊥) → c ≤ most_devices
+  lock-stored : (c v : ℕ) → (c ≡ 0 → ⊥) → c ≤ most_devices
       → set s (lock_place room c) v ≡ layout (with_lock (view room s) c v)
   unfolding with_lock
   lock-stored c v h k = ap (λ (l : List ℕ). set l (lock_place room c) v) (sym whole)
       ∙ store_lock room (view room s) (view_shape room s) c v (omega arith) k
 
-  pub lock-kept : (c v : ℕ) → most_devices < c → s ≡ layout (with_lock (view room s) c v)
+  lock-kept : (c v : ℕ) → most_devices < c → s ≡ layout (with_lock (view room s) c v)
   unfolding with_lock
   lock-kept c v h = rw (put_out (view room s).lock c v (omega (arith, (view_shape room s).locks))) (sym whole)
 
-  pub lock_zero : (c v : ℕ) → c ≡ 0 → s ≡ layout (with_lock (view room s) c v)
+  lock_zero : (c v : ℕ) → c ≡ 0 → s ≡ layout (with_lock (view room s) c v)
   unfolding with_lock
   lock_zero c v e = rw e (sym whole)
 
-  pub object-stored : (n v : ℕ) → (n ≡ 0 → ⊥) → n ≤ room
+  object-stored : (n v : ℕ) → (n ≡ 0 → ⊥) → n ≤ room
       → set s (object_place n) v ≡ layout (with_object (view room s) n v)
   unfolding with_object
   object-stored n v h k = ap (λ (l : List ℕ). set l (object_place n) v) (sym whole)
       ∙ store_object room (view room s) (view_shape room s) n v (omega arith) k
 
-  pub object-kept : (n v : ℕ) → room < n → s ≡ layout (with_object (view room s) n v)
+  object-kept : (n v : ℕ) → room < n → s ≡ layout (with_object (view room s) n v)
   unfolding with_object
   object-kept n v h = rw (put_out (view room s).object n v (omega (arith, (view_shape room s).objects))) (sym whole)
 
-  pub object_zero : (n v : ℕ) → n ≡ 0 → s ≡ layout (with_object (view room s) n v)
+  object_zero : (n v : ℕ) → n ≡ 0 → s ≡ layout (with_object (view room s) n v)
   unfolding with_object
   object_zero n v e = rw e (sym whole)
 
@@ -230,10 +309,48 @@ module _ (room : ℕ) (s : List ℕ) (fits : length s ≡ area_length room) wher
       ∙ (ap (λ (l : List ℕ). sets l (content_place n) v) (sym whole)
       ∙ store_content room (view room s) (view_shape room s) n v (omega arith) k w))
 
-  pub content-kept : (n : ℕ) (v : List ℕ) → room < n → s ≡ layout (with_content (view room s) n v)
+  content-kept : (n : ℕ) (v : List ℕ) → room < n → s ≡ layout (with_content (view room s) n v)
   unfolding with_content
   content-kept n v h = rw (put_out (view room s).content n v (omega (arith, (view_shape room s).contents))) (sym whole)
 
-  pub content_zero : (n : ℕ) (v : List ℕ) → n ≡ 0 → s ≡ layout (with_content (view room s) n v)
+  content_zero : (n : ℕ) (v : List ℕ) → n ≡ 0 → s ≡ layout (with_content (view room s) n v)
   unfolding with_content
   content_zero n v e = rw e (sym whole)
+
+  pub content-left : (n : ℕ) (v : List ℕ) → (n < 1) ⊎ (room < n) → s ≡ layout (with_content (view room s) n v)
+  content-left n v (inl h) = content_zero n v (omega arith)
+  content-left n v (inr h) = content-kept n v h
+
+-- numbered bytes
+module _ (room : ℕ) (s : List ℕ) (fits : length s ≡ area_length room) (v : ℕ) where
+  pub driver_changed : (d : ℕ)
+      → with_byte s (drivers_from - 1) 1 most_drivers d v ≡ layout (with_driver (view room s) d v)
+  unfolding with_byte
+  driver_changed = by_number most_drivers (λ n. set s ((drivers_from - 1) + 1 * n) v) s
+      (λ d. layout (with_driver (view room s) d v)) (driver_zero room s fits 0 v refl)
+      (λ n h k. ap (λ (i : ℕ). set s i v) (omega arith) ∙ driver-stored room s fits n v h k)
+      (λ n h. driver-kept room s fits n v h)
+
+  pub device_changed : (c : ℕ)
+      → with_byte s (devices_from - 1) 1 most_devices c v ≡ layout (with_device (view room s) c v)
+  unfolding with_byte
+  device_changed = by_number most_devices (λ n. set s ((devices_from - 1) + 1 * n) v) s
+      (λ c. layout (with_device (view room s) c v)) (device_zero room s fits 0 v refl)
+      (λ n h k. ap (λ (i : ℕ). set s i v) (omega arith) ∙ device-stored room s fits n v h k)
+      (λ n h. device-kept room s fits n v h)
+
+  pub lock_changed : (c : ℕ)
+      → with_byte s ((records_from - 1) + record_bytes * room) 1 most_devices c v ≡ layout (with_lock (view room s) c v)
+  unfolding with_byte
+  lock_changed = by_number most_devices (λ n. set s (((records_from - 1) + record_bytes * room) + 1 * n) v) s
+      (λ c. layout (with_lock (view room s) c v)) (lock_zero room s fits 0 v refl)
+      (λ n h k. ap (λ (i : ℕ). set s i v) (omega arith) ∙ lock-stored room s fits n v h k)
+      (λ n h. lock-kept room s fits n v h)
+
+  pub object_changed : (n : ℕ)
+      → with_byte s (records_from - record_bytes) record_bytes room n v ≡ layout (with_object (view room s) n v)
+  unfolding with_byte
+  object_changed = by_number room (λ n. set s (object_place n) v) s
+      (λ n. layout (with_object (view room s) n v)) (object_zero room s fits 0 v refl)
+      (λ n h k. object-stored room s fits n v h k)
+      (λ n h. object-kept room s fits n v h)

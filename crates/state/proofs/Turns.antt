@@ -1,15 +1,13 @@
 -- Loops that change an object a turn: the state after some of them.
-use Prim.Native.Nat.{ℕ, zero, suc, ◌+◌, ◌*◌, ◌≤◌, ◌<◌}
+use Prim.Native.Nat.{ℕ, zero, suc, ◌+◌, ◌-◌, ◌*◌, ◌≤◌, ◌<◌, min}
 use mathlib.Core.Path.{◌≡◌, refl, sym, ap, ◌∙◌}
 use mathlib.Core.Logic.{◌⊎◌, inl, inr}
-use mathlib.Core.List.{List, [], ◌∷◌, ◌++◌, append-nil, append_assoc}
+use mathlib.Core.List.{List, ◌∷◌, ◌++◌, append_assoc}
 use mathlib.Core.Bool.{Bool, true, false, ◌&&◌, cond}
-use native.Mathlib.Numerals.{add-one}
 use native.Mathlib.Omega.{arith}
 use lib.ListN.{length, get_or, drop, set, replicate, length-replicate, replicate-append-replicate}
-use lib.Seq.{set-get_or, drop_at, drop-drop, drop-length}
+use lib.Seq.{set-get_or, drop_at, drop-drop}
 use lib.Dec.{leb, eqb}
-use borrow.Author.Fill.{fill_more}
 use borrow.Author.Tests.{le-leb, lt-leb, ne_eqb}
 use Rattle.model.specs.Base.{number}
 use Rattle.model.specs.Config.{most_drivers, most_devices, kind_of, owner_of, hardcoded_of}
@@ -36,11 +34,10 @@ use Rattle.model.specs.declared.Config.{Config}
 use Rattle.model.proofs.Lists.{all-put, length_put, partly, partly_get, partly_more, partly_all}
 use Rattle.model.proofs.StateLaws.{Sixteen, Shape, view-layout}
 use Rattle.model.proofs.StateBytes.{layout-view}
-use Rattle.state.specs.Bytes.{Lesser}
-use Rattle.state.specs.Change.{with_driver, with_device, with_object, with_content, objects_lent}
+use Rattle.state.specs.Change.{with_driver, with_device, with_object, with_content}
 use Rattle.state.specs.Fresh.{valued}
 use Rattle.state.proofs.Places.{view_shape}
-use Rattle.state.proofs.Idle.{idle_rest, lesser_end}
+use Rattle.state.proofs.Idle.{idle_rest, min_end}
 
 -- what an area shows after one change
 module _ (room : ℕ) (s t : List ℕ) where
@@ -121,18 +118,6 @@ module _ (f : ℕ → ℕ → ℕ) (g : ℕ → List ℕ → List ℕ) where
       d : k ≡ length b.content
       d = omega (arith, sh.contents)
 
--- zeros
-pub zero_on : (i n : ℕ) (s t : List ℕ) → n ≡ length s → i < n → t ≡ replicate i 0 ++ drop i s
-    → set t i 0 ≡ replicate (i + 1) 0 ++ drop (i + 1) s
-zero_on i n s t l h e = rw e (fill_more i 0 s (omega arith))
-
-pub zero_end : (i n : ℕ) (s t : List ℕ) → n ≡ length s → i ≤ n → n ≤ i → t ≡ replicate i 0 ++ drop i s
-    → t ≡ replicate (length s) 0
-zero_end i n s t l h k e =
-    let q : i ≡ length s = omega arith in
-    e ∙ (ap (λ (m : ℕ). replicate m 0 ++ drop m s) q
-    ∙ (ap (λ (r : List ℕ). replicate (length s) 0 ++ r) (drop-length s) ∙ append-nil (replicate (length s) 0)))
-
 pub zero_length : (n : ℕ) (s t : List ℕ) → s ≡ replicate n 0 → length t ≡ length s → length t ≡ n
 zero_length n s t e l = l ∙ (ap (λ (r : List ℕ). length r) e ∙ length-replicate n 0)
 
@@ -156,22 +141,25 @@ zeros_contents (suc k) t =
     ∙ ap (λ (l : List (List ℕ)). cleared ∷ l) (zeros_contents k t)
 
 -- one object's contents in a fresh state
-module _ (objects : ℕ) (kind owner hardcoded : List ℕ) (n room : ℕ) (s : List ℕ) where
+module _ (config : Config) (n room : ℕ) (s : List ℕ) where
   abbrev Valued : List ℕ → Type 0
-  Valued t = t ≡ layout (valued (objects_lent objects 0 kind [] owner hardcoded) n (view room s))
+  Valued t = t ≡ layout (valued config n (view room s))
 
-  pub value-absent : length s ≡ area_length room → objects < n → Valued s
-  unfolding valued objects_lent
-  value-absent l h = rw (lt-leb n objects h) (sym (layout-view room s l))
+  pub value-absent : length s ≡ area_length room → config.counts.objects < n → Valued s
+  unfolding valued
+  value-absent l h = rw (lt-leb n config.counts.objects h) (sym (layout-view room s l))
 
-  pub value-other : (k : ℕ) → length s ≡ area_length room → n ≤ objects → k ≡ get_or kind n 0 → (k ≡ 4 → ⊥) → Valued s
-  unfolding valued objects_lent
-  value-other k l h e x = rw (le-leb n objects h, ← e, ne_eqb k 4 x) (sym (layout-view room s l))
+  pub value-other : (k : ℕ) → length s ≡ area_length room → n ≤ config.counts.objects
+      → k ≡ get_or config.objects.kind n 0 → (k ≡ 4 → ⊥) → Valued s
+  unfolding valued
+  value-other k l h e x =
+      rw (le-leb n config.counts.objects h, ← e, ne_eqb k 4 x) (sym (layout-view room s l))
 
-  pub value-hardcoded : (k o v : ℕ) (c t : List ℕ) → n ≤ objects → k ≡ get_or kind n 0 → k ≡ 4 → o ≡ get_or owner n 0
-      → v ≡ get_or hardcoded o 0 → c ≡ value_bytes v → t ≡ layout (with_content (view room s) n c) → Valued t
-  unfolding valued objects_lent
-  value-hardcoded k o v c t h e x f q r g = rw (le-leb n objects h, ← e, x, ← f, ← q, ← r) g
+  pub value-hardcoded : (k o v : ℕ) (c t : List ℕ) → n ≤ config.counts.objects → k ≡ get_or config.objects.kind n 0
+      → k ≡ 4 → o ≡ get_or config.objects.owner n 0 → v ≡ get_or config.devices.hardcoded o 0 → c ≡ value_bytes v
+      → t ≡ layout (with_content (view room s) n c) → Valued t
+  unfolding valued
+  value-hardcoded k o v c t h e x f q r g = rw (le-leb n config.counts.objects h, ← e, x, ← f, ← q, ← r) g
 
 -- the loop of a fresh state
 unfoldable pub fresh_to : Config → ℕ → ℕ → State
@@ -254,13 +242,19 @@ module _ (config : Config) (room : ℕ) where
   after-value s t v n true w e = after-content room s t n v w e
   after-value s t v n false w e = ap (view room) e ∙ view-layout room (view room s) (view_shape room s)
 
-  pub fresh_on : (present i : ℕ) (s t : List ℕ) → view room s ≡ fresh_to config room i → i < present
-      → Lesser config.counts.objects room present → t ≡ layout (valued config (i + 1) (view room s))
-      → view room t ≡ fresh_to config room (i + 1)
+  -- after the turn for object n it is done, as those before it are
+  pub fresh_on : (present n : ℕ) (s t : List ℕ) → view room s ≡ fresh_to config room (n - 1) → 1 ≤ n → n < present + 1
+      → present ≡ min room config.counts.objects → t ≡ layout (valued config n (view room s))
+      → view room t ≡ fresh_to config room (n + 1 - 1)
   unfolding valued
-  fresh_on present i s t inv l p e =
-      after-value s t (value (i + 1)) (i + 1) (is_hardcoded (i + 1)) refl e
-      ∙ rw (inv, add-one i) (fresh-state i (is_hardcoded (suc i)) (value (suc i)) (omega (arith, p.second)) refl)
+  fresh_on present n s t inv low l p e =
+      after-value s t (value n) n (is_hardcoded n) refl e
+      ∙ (go (n - 1) n (omega arith) (omega arith) inv
+      ∙ ap (fresh_to config room) (omega arith))
+    where
+      go : (i m : ℕ) → m ≡ suc i → i < room → view room s ≡ fresh_to config room i
+          → cond (is_hardcoded m) (with_content (view room s) m (value m)) (view room s) ≡ fresh_to config room (suc i)
+      go i m q k h = rw (h, q) (fresh-state i (is_hardcoded (suc i)) (value (suc i)) k refl)
 
   -- nothing is stored in records of absent objects
   absent-cleared : (m i : ℕ) → config.counts.objects < m
@@ -268,13 +262,13 @@ module _ (config : Config) (room : ℕ) where
   absent-cleared m i h = rw (lt-leb m config.counts.objects h) (sym (cleared_at room i))
 
   pub fresh_end : (present i : ℕ) (s₀ s : List ℕ) → s₀ ≡ replicate (area_length room) 0 → length s ≡ length s₀
-      → view room s ≡ fresh_to config room i → Lesser config.counts.objects room present → i ≤ present
-      → present ≤ i → s ≡ layout (fresh room config)
+      → view room s ≡ fresh_to config room i → present ≡ min room config.counts.objects → i ≤ present → present ≤ i
+      → s ≡ layout (fresh room config)
   unfolding fresh_to fresh
   fresh_end present i s₀ s z l inv p h k =
       sym (layout-view room s (zero_length (area_length room) s₀ s z l))
       ∙ ap layout (inv ∙ ap (Columns.with_content (fresh room config))
-      (go (lesser_end config.counts.objects room present i p k)))
+      (go (min_end config.counts.objects room i (omega arith))))
     where
       f : ℕ → List ℕ → List ℕ
       f n c = fresh_content config n
@@ -283,15 +277,5 @@ module _ (config : Config) (room : ℕ) where
           → partly f i (replicate room cleared) ≡ number 0 f (replicate room cleared)
       go (inl q) = idle_rest f cleared 0 i (replicate room cleared) (λ m n r. absent-cleared m n (omega arith))
       go (inr q) =
-          let e : i ≡ length (replicate room cleared) = omega (arith, p.second, length-replicate room cleared) in
+          let e : i ≡ length (replicate room cleared) = omega (arith, length-replicate room cleared) in
           ap (λ (m : ℕ). partly f m (replicate room cleared)) e ∙ partly_all f (replicate room cleared)
-
-pub zero_whole : (room : ℕ) (s t : List ℕ) → length s ≡ area_length room → t ≡ replicate (length s) 0
-    → t ≡ replicate (area_length room) 0
-zero_whole room s t l e = rw l at e
-
-pub fresh-whole : (room : ℕ) (config : Config) (u : List ℕ)
-    → u ≡ layout (fresh room (objects_lent config.counts.objects 0 config.objects.kind []
-    config.objects.owner config.devices.hardcoded)) → u ≡ layout (fresh room config)
-unfolding fresh objects_lent
-fresh-whole room config u e = e

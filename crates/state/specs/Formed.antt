@@ -1,10 +1,9 @@
 -- The parts of question 9, each as one test that the code answers.
-use Rattle.std.specs.Prelude.{ℕ, ◌+◌, ◌-◌, ◌≤◌, ◌<◌, ◌≡◌, List, Bool, true, not, ◌&&◌, ◌||◌, get_or, leb, eqb}
+use Rattle.std.specs.Prelude.{ℕ, zero, suc, Option, None, Some, ◌≡◌, List, Bool, true, not, ◌&&◌, ◌||◌}
+use Rattle.std.specs.Prelude.{get_or, leb, eqb}
 use Rattle.model.specs.Base.{all, every}
 use Rattle.model.specs.Config.{most_drivers, most_devices, kind_of, owner_of, hardcoded_of}
 use Rattle.model.specs.State.{
-  drivers_from,
-  devices_from,
   State,
   status_of,
   driver_in,
@@ -19,16 +18,18 @@ use Rattle.model.specs.State.{
   right_lock,
   same_bytes,
   with_owner,
-  view,
 }
 use Rattle.model.specs.declared.Config.{Config}
+use Rattle.state.specs.declared.tables.Tables.{Tables}
 
 unfoldable pub statuses_right : State → Bool
 statuses_right b = eqb (status_of b 0) 0 && all (λ s. leb s green_status) b.status
 
--- the first k drivers or devices, the byte of number n at place before + n of the area s
-unfoldable pub assignments_right : State → List ℕ → ℕ → ℕ → ℕ → Bool
-assignments_right b s before many k = every k (λ n. right_assignment b many n (get_or s (before + n) 0))
+-- the partition bytes of all drivers and of all devices
+unfoldable pub assignments_right : Config → State → Bool
+assignments_right config b =
+    every most_drivers (λ d. right_assignment b config.counts.drivers d (driver_in b d))
+    && every most_devices (λ c. right_assignment b config.counts.devices c (device_in b c))
 
 -- the locks of all devices
 unfoldable pub locks_right : Config → State → Bool
@@ -57,28 +58,20 @@ Housed b = (n : ℕ) → (assigned b (driver_in b n) ≡ true) × (assigned b (d
 abbrev pub byte_values : ℕ
 byte_values = 256
 
-unfoldable pub Blank : List ℕ → Type 0
-Blank t = (n : ℕ) → get_or t n 0 ≡ 0
-
--- the table t has the bytes of the numbers 1 to k, which stand behind place `before` of the area s, and else 0
-pub record Numbered (s : List ℕ) (before k : ℕ) (t : List ℕ) : Type 0 where
-  pub inside : (n : ℕ) → 1 ≤ n → n ≤ k → get_or t n 0 ≡ get_or s (before + n) 0
-  pub first : get_or t 0 0 ≡ 0
-  pub behind : (n : ℕ) → k < n → get_or t n 0 ≡ 0
-
--- the table t has a status that stands for 0 and for every existing partition, and for no other number
-unfoldable pub Named : State → List ℕ → Type 0
-Named b t = (p : ℕ) → stands (get_or t p 0) ≡ assigned b p
-
--- the partition p of an owned object is that of its owner, and none or existing by the table t, unless it is known that
+-- the partition p of an owned object is that of its owner, and none or existing by the tables, unless it is known that
 -- the owner's is
-unfoldable pub at_home : Bool → List ℕ → ℕ → ℕ → Bool
-at_home housed t p home = eqb p home && (housed || stands (get_or t p 0))
+unfoldable pub at_home : Tables → ℕ → ℕ → Bool
+at_home t p home = eqb p home && (t.housed || stands (get_or t.named p 0))
 
--- what a walk knows of the head: the statuses by what a partition byte names, the partitions of drivers and of devices,
--- and, if the head was found good, that these are none or exist
-pub record Tables (room : ℕ) (s named drivers devices : List ℕ) (housed : Bool) : Type 0 where
-  pub statuses : Named (view room s) named
-  pub of_drivers : Numbered s (drivers_from - 1) most_drivers drivers
-  pub of_devices : Numbered s (devices_from - 1) most_devices devices
-  pub good : housed ≡ true → Housed (view room s)
+-- what the tables say of a state: a status that stands for 0 and for every existing partition, and for no other number;
+-- the partitions of drivers and of devices; and, if the head was found good, that these are none or exist
+pub record TablesOf (b : State) (t : Tables) : Type 0 where
+  pub statuses : (p : ℕ) → stands (get_or t.named p 0) ≡ assigned b p
+  pub of_drivers : (d : ℕ) → get_or t.drivers d 0 ≡ driver_in b d
+  pub of_devices : (c : ℕ) → get_or t.devices c 0 ≡ device_in b c
+  pub good : t.housed ≡ true → Housed b
+
+-- what a walk answers: the number of the record that it found, if any
+unfoldable pub found : ℕ → Option ℕ
+found zero = None
+found (suc n) = Some (suc n)

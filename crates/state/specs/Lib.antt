@@ -3,3 +3,4 @@ pub mod Bytes
 pub mod Change
 pub mod Formed
 pub mod Fresh
+pub mod Shown

@@ -1,8 +1,9 @@
-// The state area: lookups, contents of sixteen bytes, changes, a fresh state, and question 9. The area is lent as a
-// slice; `room` is how many object records it has.
+// The state area: lookups, contents of sixteen bytes, changes, a fresh state, and question 9. Who reads the area is
+// lent an `Area`; who changes it, a slice, with `room`, which is how many object records it has.
 
 #![tactic(auto)]
 
+pub mod area;
 pub mod bytes;
 pub mod change;
 pub mod formed;
@@ -10,6 +11,7 @@ pub mod fresh;
 mod locks;
 pub mod look;
 pub mod room;
+mod tables;
 pub mod walk;
 
 use model::{CONTENT_BYTES, MOST_DEVICES, MOST_DRIVERS, MOST_OBJECTS, SMALL_ROOM};

@@ -11,9 +11,9 @@ pub fn room_for(n: u8) -> usize
     ensures { result ≡ room_for n }
 {
     if n <= SMALL_ROOM {
-        SMALL_ROOM as usize
+        usize::from(SMALL_ROOM)
     } else {
-        MOST_OBJECTS as usize
+        usize::from(MOST_OBJECTS)
     }
 }
 

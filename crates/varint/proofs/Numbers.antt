@@ -1,18 +1,24 @@
--- Laws of `lead` at a place of a list, and of `number_at` by cases.
+-- Laws of `lead` in the words of a search over a list, and of `number_at` by cases.
 -- Assumes nothing.
-use Prim.Native.Nat.{ℕ, zero, suc, ◌+◌, ◌-◌, ◌*◌, ◌%◌, ◌<◌, ◌≤◌}
-use mathlib.Core.Path.{◌≡◌, refl, sym, ◌∙◌, subst}
+use Prim.Native.Nat.{ℕ, zero, suc, ◌+◌, ◌-◌, ◌*◌, ◌%◌, ◌<◌, ◌≤◌, min}
+use mathlib.Core.Path.{◌≡◌, refl, sym, ap, ◌∙◌}
 use native.Mathlib.Numerals.{add-one}
-use mathlib.Core.List.{List}
-use mathlib.Core.Bool.{Bool, true, false, false≢true, ◌&&◌, ◌||◌}
-use lib.Dec.{ltb, eqb, leb}
-use lib.ListN.{length, get_or, drop, drop_of_length-le, length-drop}
-use lib.Seq.{drop-cons, get_or-drop}
-use borrow.Author.Tests.{lt-ltb, le-ltb, le-leb, lt-leb, leb-true, eq-eqb, ne_eqb}
+use Rattle.std.specs.Prelude.{Option, Some, None, IsSome}
+use Rattle.std.proofs.lemmas.Option.{none-some, MatchOption-at_some}
+use native.Mathlib.Decide.{dec_le}
+use mathlib.Core.List.{List, [], ◌∷◌}
+use mathlib.Core.Bool.{Bool, true, false, cond, false≢true, ◌&&◌, ◌||◌}
+use lib.Dec.{ltb, eqb, leb, leb-suc-suc}
+use lib.ListN.{length, get_or, take, drop, length-take, length-drop}
+use lib.Seq.{drop-cons, take_all}
+use borrow.Author.Tests.{lt-ltb, le-ltb, le-leb, ltb-true, ltb-false, eq-eqb, ne_eqb}
 use native.Mathlib.Omega.{arith}
+use denote.Ref.{Bor}
+use Rattle.std.specs.Option.{MatchOption}
+use Rattle.std.specs.List.{list_any, slice_range, position_or_len}
+use Rattle.std.proofs.lemmas.List.Recursion.{is_position_or_len}
 use Rattle.model.specs.declared.Fault.TheVariants.{Cut, Form}
-use Rattle.model.specs.declared.Num.{Num}
-use Rattle.model.specs.declared.Num.TheVariants.{Got, Bad}
+use Rattle.model.specs.Num.{Got, Bad}
 use Rattle.model.specs.Number.{
   most_number,
   most_bytes,
@@ -27,82 +33,39 @@ use Rattle.model.specs.Number.{
   number_at,
   number_to,
 }
-use Rattle.model.specs.NumberMeans.{num_means, meant_at}
-use Rattle.model.proofs.NumberMeans.{means_at}
+use Rattle.varint.specs.Lead.{IsNearLead}
 use Rattle.model.proofs.OldNumbers.{never_large}
-use Rattle.varint.specs.Run.{run_bytes, high_run, full_run}
 
-module _ (s : List ℕ) (i : ℕ) where
-  pub lead-last : i < length s → get_or s i 0 < 128 → lead (drop i s) ≡ 0
-  unfolding lead
-  lead-last h b = rw (drop-cons s i 0 h) (rw (lt-ltb (get_or s i 0) 128 b))
+-- ---- the place of the last byte
+any_step : (a x : Bool) (l n : ℕ) → x ≡ ltb l n → (a || x) ≡ ltb (cond a 0 (suc l)) (suc n)
+any_step true x l n e = sym (lt-ltb 0 (suc n) (omega arith))
+any_step false x l n e = e ∙ sym (leb-suc-suc (suc l) n)
 
-  pub lead_more : i < length s → 128 ≤ get_or s i 0 → lead (drop i s) ≡ suc (lead (drop (suc i) s))
-  unfolding lead
-  lead_more h b = rw (drop-cons s i 0 h) (rw (le-ltb (get_or s i 0) 128 b))
+pub lead_any : (t : List ℕ) → list_any (λ b. ltb b 128) t ≡ ltb (lead t) (length t)
+unfolding lead
+lead_any [] = refl
+lead_any (b ∷ t) = any_step (ltb b 128) _ _ _ (lead_any t)
 
-  pub lead_end : length s ≤ i → lead (drop i s) ≡ 0
-  unfolding lead
-  lead_end h = rw (drop_of_length-le s h)
+lead_position : (t : List ℕ) → lead t ≡ position_or_len (λ b. ltb b 128) t
+unfolding lead
+lead_position = is_position_or_len lead (λ b. ltb b 128) refl
+    (λ x xs. let e : suc (lead xs) ≡ 1 + lead xs = omega arith in ap (cond (ltb x 128) 0) e)
 
--- runs of bytes that have 128 added
-module _ (s : List ℕ) (i : ℕ) where
-  pub run_start : true ≡ high_run s i 0
-  unfolding high_run
-  run_start = refl
+min_step : (a : Bool) (k l l' : ℕ) → l ≡ min k l' → cond a 0 (suc l) ≡ min (suc k) (cond a 0 (suc l'))
+min_step true k l l' e = omega arith
+min_step false k l l' e = omega arith
 
-  pub run_more : (n : ℕ) (a b : Bool) → a ≡ high_run s i n → b ≡ leb 128 (get_or s (i + n) 0)
-      → a && b ≡ high_run s i (n + 1)
-  unfolding high_run
-  run_more n a b p q = rw (add-one, p, q)
+lead-take : (k : ℕ) (t : List ℕ) → lead (take k t) ≡ min k (lead t)
+unfolding lead
+lead-take zero t = omega arith
+lead-take (suc k) [] = omega arith
+lead-take (suc k) (b ∷ t) = min_step (ltb b 128) k _ _ (lead-take k t)
 
-  pub run_none : length s - i < run_bytes → false ≡ full_run s i
-  unfolding full_run
-  run_none h = rw (lt-leb run_bytes (length s - i) h)
+pub lead-last : (s : List ℕ) (i : ℕ) → i < length s → get_or s i 0 < 128 → lead (drop i s) ≡ 0
+unfolding lead
+lead-last s i h b = rw (drop-cons s i 0 h, lt-ltb (get_or s i 0) 128 b)
 
-  pub run_end : (n : ℕ) (a : Bool) → run_bytes ≤ length s - i → n ≤ run_bytes → run_bytes ≤ n → a ≡ high_run s i n
-      → a ≡ full_run s i
-  unfolding full_run
-  run_end n a h l m p =
-      let q : n ≡ run_bytes = omega arith in
-      rw (le-leb run_bytes (length s - i) h, p, q)
-
-  and_left : (a b : Bool) → a && b ≡ true → a ≡ true
-  and_left true b e = refl
-  and_left false b e = absurd (false≢true e)
-
-  and_right : (a b : Bool) → a && b ≡ true → b ≡ true
-  and_right true b e = e
-  and_right false b e = absurd (false≢true e)
-
-  run_lead : (n : ℕ) → i + n ≤ length s → high_run s i n ≡ true → i + lead (drop i s) ≡ i + n + lead (drop (i + n) s)
-  unfolding high_run
-  run_lead zero h e =
-      let q : i + 0 ≡ i = omega arith in
-      rw q
-  run_lead (suc n) h e =
-      let q : i + suc n ≡ suc (i + n) = omega arith in
-      let b = leb-true 128 (get_or s (i + n) 0) (and_right (high_run s i n) (leb 128 (get_or s (i + n) 0)) e) in
-      let t = run_lead n (omega arith) (and_left (high_run s i n) (leb 128 (get_or s (i + n) 0)) e) in
-      rw q (omega (arith, t, lead_more s (i + n) (omega arith) b))
-
-  pub run_room : i < length s → full_run s i ≡ true → i + run_bytes ≤ length s
-  unfolding full_run
-  run_room l h =
-      let a = and_left (leb run_bytes (length s - i)) (high_run s i run_bytes) h in
-      omega (arith, leb-true run_bytes (length s - i) a)
-
-  pub run_passed : i < length s → full_run s i ≡ true
-      → i + run_bytes + lead (drop (i + run_bytes) s) ≡ i + lead (drop i s)
-  unfolding full_run
-  run_passed l h =
-      sym (run_lead run_bytes (run_room l h) (and_right (leb run_bytes (length s - i)) (high_run s i run_bytes) h))
-
-or_true : (b : Bool) → b || true ≡ true
-or_true true = refl
-or_true false = refl
-
--- the value at a place of s
+-- ---- the value at a place of s
 module _ (s : List ℕ) (at : ℕ) (h : at < length s) where
   pub value-last : value_of (drop at s) 0 ≡ get_or s at 0
   unfolding value_of
@@ -112,78 +75,116 @@ module _ (s : List ℕ) (at : ℕ) (h : at < length s) where
   unfolding value_of
   value_more n = rw (add-one, drop-cons s at 0 h)
 
--- the number at a place of s: e is the place of its last byte
-module _ (s : List ℕ) (at e : ℕ) (p : e ≡ at + lead (drop at s)) where
-  pub number_cut : length s ≤ e → number_at s at ≡ Bad Cut
-  unfolding head_to number_to
-  number_cut h = rw (le-ltb (lead (drop at s)) (length (drop at s)) (simp length-drop (omega arith)))
+-- ---- the form of a number with n bytes before its last
+or_true : (b : Bool) → b || true ≡ true
+or_true true = refl
+or_true false = refl
 
-  pub number_form : e < length s → number_at s at ≡ form_at at (drop at s) (e - at)
-  unfolding head_to number_to
-  number_form h =
-      let q : lead (drop at s) ≡ e - at = omega arith in
-      rw (lt-ltb (lead (drop at s)) (length (drop at s)) (simp length-drop (omega arith)), q)
-
-  pub value-fits : e < length s → e - at < most_bytes → value_of (drop at s) (e - at) ≤ most_number
-  value-fits h few =
-      let q : lead (drop at s) ≡ e - at = omega arith in
-      subst (λ (n : ℕ). value_of (drop at s) n ≤ most_number) q
-      (never_large (drop at s) (simp length-drop (omega arith)) (omega arith))
-
-  pub last_byte : get_or (drop at s) (e - at) 0 ≡ get_or s e 0
-  last_byte =
-      let q : at + (e - at) ≡ e = omega arith in
-      get_or-drop at s (e - at) 0 ∙ rw q
-
-module _ (at : ℕ) (t : List ℕ) (n : ℕ) where
-  pub form_bad : formed t n ≡ false → form_at at t n ≡ Bad Form
-  unfolding form_to
-  form_bad h = rw h
-
-  pub form_got : (e v : ℕ) → at + n ≡ e → v ≡ value_of t n → formed t n ≡ true → form_at at t n ≡ Got v (e + 1)
-  unfolding form_to
-  form_got e v p q h = rw (h, p, q)
+and_false : (few small : Bool) → (few && false && small) ≡ false
+and_false true small = refl
+and_false false small = refl
 
 module _ (t : List ℕ) (n : ℕ) where
-  pub shortest_one : n ≤ 0 → shortest t n ≡ true
+  shortest_one : n ≤ 0 → shortest t n ≡ true
   unfolding shortest
   shortest_one h = rw (eq-eqb n 0 (omega arith))
 
-  pub shortest_more : (b : ℕ) → get_or t n 0 ≡ b → (b ≡ 0 → ⊥) → shortest t n ≡ true
+  shortest_more : (get_or t n 0 ≡ 0 → ⊥) → shortest t n ≡ true
   unfolding shortest
-  shortest_more b p h = rw (p, lt-ltb 0 b (omega arith)) (or_true (eqb n 0))
+  shortest_more h = rw (lt-ltb 0 (get_or t n 0) (omega arith)) (or_true (eqb n 0))
 
-  pub shortest_not : (b : ℕ) → get_or t n 0 ≡ b → 0 < n → b ≡ 0 → shortest t n ≡ false
-  unfolding shortest
-  shortest_not b p h z = rw (p, z, ne_eqb n 0 (omega arith))
-
-  pub formed-long : most_bytes ≤ n → formed t n ≡ false
+  formed-long : most_bytes ≤ n → formed t n ≡ false
   unfolding formed_to
   formed-long h = rw (le-ltb n most_bytes h)
 
-  pub formed_padded : shortest t n ≡ false → formed t n ≡ false
+  formed_padded : 0 < n → get_or t n 0 ≡ 0 → formed t n ≡ false
+  unfolding formed_to shortest
+  formed_padded h z =
+      rw (ne_eqb n 0 (omega arith), z) (and_false (ltb n most_bytes) (leb (value_of t n) most_number))
+
+  formed-right : n ≡ lead t → n < length t → n < most_bytes → shortest t n ≡ true → formed t n ≡ true
   unfolding formed_to
-  formed_padded p = rw p (none (ltb n most_bytes) (leb (value_of t n) most_number))
-    where
-      none : (few small : Bool) → (few && false && small) ≡ false
-      none true small = refl
-      none false small = refl
+  formed-right e h few p =
+      let small : value_of t n ≤ most_number = rw e (never_large t (rw (← e) h) (rw (← e) few)) in
+      rw (lt-ltb n most_bytes few, p, le-leb (value_of t n) most_number small)
 
-  pub formed-right : (v : ℕ) → v ≡ value_of t n → n < most_bytes → shortest t n ≡ true → v ≤ most_number
-      → formed t n ≡ true
-  unfolding formed_to
-  formed-right v e h p q = rw (lt-ltb n most_bytes h, p, ← e, le-leb v most_number q)
+-- ---- what is got of s from a place on
+pub rest_some : (s : List ℕ) (at : ℕ) {o : Option (Bor (List ℕ))} {t : Bor (List ℕ)} (P : Type 0) → o ≡ Some t
+    → MatchOption o P (λ x. (at ≤ length s) × (length s ≤ length s) × (x.now ≡ slice_range s at (length s))
+    × (length x.now + at ≡ length s))
+    → t.now ≡ drop at s
+rest_some s at P e g =
+    (MatchOption-at_some _ _ _ e g).2 ∙ take_all (length s - at) (drop at s) (omega (arith, length-drop at s))
 
--- a number of one byte
-pub number_one : (s : List ℕ) (at b : ℕ) → at < length s → b ≡ get_or s at 0 → b < 128 → Got b (at + 1) ≡ number_at s at
-number_one s at b h e small =
-    let p : at ≡ at + lead (drop at s) = omega (arith, lead-last s at h (rw (← e) small)) in
-    let z : at - at ≡ 0 = omega arith in
-    let v : b ≡ value_of (drop at s) 0 = e ∙ sym (value-last s at h) in
-    sym (number_form s at at p h
-    ∙ rw z (form_got at (drop at s) 0 at b (omega arith) v
-    (formed-right (drop at s) 0 b v (omega arith) (shortest_one (drop at s) 0 (omega arith)) (omega arith))))
+past : {A : Type 0} (at n : ℕ) (r : Option A) → r ≡ None → (at ≤ n × n ≤ n → IsSome r) → Dec (at ≤ n) → n < at
+past at n None z k (yes h) = absurd (false≢true (k (h, omega arith)))
+past at n None z k (no h) = omega arith
+past at n (Some x) z k d = absurd (none-some x (sym z))
 
--- the number at a place, with what it means
-pub meant : (s : List ℕ) (at : ℕ) (r : Num) → r ≡ number_at s at → (r ≡ number_at s at) × (num_means r ≡ meant_at s at)
-meant s at r e = (e, means_at s at r e)
+pub rest_none : {A : Type 0} (at n : ℕ) (r : Option A) → r ≡ None → (at ≤ n × n ≤ n → IsSome r) → n < at
+rest_none at n r z k = past at n r z k (dec_le at n)
+
+-- ---- the number at a place of s, whose bytes from there on are t
+module _ (s : List ℕ) (at : ℕ) (t : List ℕ) (w : t ≡ drop at s) where
+  pub number_cut : length t ≤ lead t → Bad Cut ≡ number_at s at
+  unfolding head_to number_to
+  number_cut h = rw (← w, le-ltb (lead t) (length t) h)
+
+  pub number_past : length s < at → Bad Cut ≡ number_at s at
+  number_past h =
+      let e : length t ≡ 0 = omega (arith, ap length w, length-drop at s) in
+      number_cut (omega arith)
+
+  number_form : lead t < length t → number_at s at ≡ form_at at t (lead t)
+  unfolding head_to number_to
+  number_form h = rw (← w, lt-ltb (lead t) (length t) h)
+
+  pub number-long : lead t < length t → most_bytes ≤ lead t → Bad Form ≡ number_at s at
+  unfolding form_to
+  number-long h l = rw (number_form h, formed-long t (lead t) l)
+
+  module _ (n : ℕ) (e : n ≡ lead t) (h : n < length t) where
+    pub number_padded : 0 < n → get_or t n 0 ≡ 0 → Bad Form ≡ number_at s at
+    unfolding form_to
+    number_padded p z = rw (number_form (rw (← e) h), ← e, formed_padded t n p z)
+
+    pub number_got : n < most_bytes → shortest t n ≡ true → {v next : ℕ} → v ≡ value_of t n → next ≡ at + n + 1
+        → Got v next ≡ number_at s at
+    unfolding form_to
+    number_got few p v k = rw (number_form (rw (← e) h), ← e, formed-right t n e h few p, v, k)
+
+    -- a last byte that is not 0, or the only one
+    pub number_more : n < most_bytes → (get_or t n 0 ≡ 0 → ⊥) → {v next : ℕ} → v ≡ value_of t n → next ≡ at + n + 1
+        → Got v next ≡ number_at s at
+    number_more few p = number_got few (shortest_more t n p)
+
+    pub number_one : n ≤ 0 → {v next : ℕ} → v ≡ value_of t n → next ≡ at + n + 1 → Got v next ≡ number_at s at
+    number_one p = number_got (omega arith) (shortest_one t n p)
+
+-- ---- the first bytes searched for the last one
+module _ (t : List ℕ) where
+  near_by : (b : Bool) (k : ℕ) → b ≡ ltb k (min most_bytes (length t)) → k ≡ min most_bytes (lead t)
+      → {r : Option ℕ} → r ≡ cond b (Some k) None → IsNearLead r t
+  near_by true k h e p = rw p (
+    omega (arith, e, ltb-true _ _ (sym h)),
+    omega (arith, e, ltb-true _ _ (sym h)),
+    omega (arith, e, ltb-true _ _ (sym h)),
+  )
+  near_by false k h e p = rw p (λ l. omega (arith, e, l, ltb-false _ _ (sym h)))
+
+  pub near : {r : Option ℕ}
+      → r ≡ cond (ltb (position_or_len (λ b. ltb b 128) (take most_bytes t)) (length (take most_bytes t)))
+      (Some (position_or_len (λ b. ltb b 128) (take most_bytes t))) None
+      → IsNearLead r t
+  near p = near_by _ _ (rw length-take) (sym (lead_position (take most_bytes t)) ∙ lead-take most_bytes t) p
+
+-- ---- a number of one byte
+pub number_short : (s : List ℕ) (at : ℕ) {b : ℕ} → at < length s → b ≡ get_or s at 0 → b < 128
+    → Got b (at + 1) ≡ number_at s at
+number_short s at {b} h e small =
+    let l : lead (drop at s) ≡ 0 = lead-last s at h (rw (← e) small) in
+    number_one s at (drop at s) refl 0 (sym l) (simp length-drop (omega arith)) (omega arith)
+    (e ∙ sym (value-last s at h)) (omega arith)
+
+-- ---- what the check reads where a place is past the end
+pub ruleset no_rest = (number_past, rest_none)

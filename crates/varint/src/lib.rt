@@ -2,13 +2,15 @@
 
 #![tactic(auto)]
 
-ghost use Rattle.std.specs.Prelude.{◌≡◌, ◌+◌, ◌<◌, ◌≤◌, length, drop};
+ghost use Rattle.std.specs.Prelude.{◌≡◌, ◌+◌, ◌<◌, ◌≤◌, length, ltb};
+ghost use Rattle.std.specs.List.{list_any};
+ghost use Rattle.model.specs.Answers.{num_of};
 ghost use Rattle.model.specs.Number.{most_number, most_bytes, lead, value_of, number_at, bytes_of};
 ghost use Rattle.model.specs.NumberMeans.{num_means, meant_at};
 ghost use Rattle.page.specs.Page.{Placed};
-ghost use Rattle.varint.specs.Run.{full_run};
+ghost use Rattle.varint.specs.Lead.{IsNearLead};
 
-use model::{Fault, MOST_BYTES, Num, wide};
+use model::{Fault, MOST_BYTES};
 use page::lay;
 
 // How many bytes of a long run are tested at once.
@@ -19,122 +21,74 @@ const GROUP: usize = 128;
 
 const TWO_GROUPS: usize = GROUP * GROUP;
 
-// A whole run of bytes from `at` on, none of them below 128. It has no way out in its midst, so that the bytes are
-// tested side by side.
-fn is_run(s: &[u8], at: usize) -> bool
-    requires { at ≤ length s.now }
-    ensures { result ≡ full_run s.now at }
+// Whether a number's last byte is among some bytes: one below 128. It has no way out in its midst, so that the bytes
+// are tested side by side.
+fn has_last(run: &[u8]) -> bool
+    ensures { result ≡ list_any (λ b. ltb b 128) run.now }
 {
-    if s.len() - at < RUN_BYTES {
-        return false;
-    }
-    let mut all = true;
-    let mut i: usize = 0;
-    while i < RUN_BYTES {
-        let high = 128 <= s[at + i];
-        all = all & high;
-        i += 1;
-    }
-    all
+    run.iter().fold(false, |found, b| found | (*b < 128))
 }
 
-// A place from which the last byte is the same as from `at`: after the runs.
-fn pass_runs(s: &[u8], at: usize) -> usize
-    ensures { result + lead (drop result s.now) ≡ at + lead (drop at s.now) }
+// The same of many bytes, run by run: a file without a last byte is read to its end to be refused.
+fn has_far_last(s: &[u8]) -> bool
+    ensures { result ≡ ltb (lead s.now) (length s.now) }
 {
-    let mut i = at;
-    while i < s.len() {
-        if !is_run(s, i) {
-            return i;
-        }
-        i += RUN_BYTES;
-    }
-    i
+    s.chunks(RUN_BYTES).any(has_last)
 }
 
-// The place of the last byte of the number at `at`: the first byte below 128. At or past the end where there is none.
-fn far_last(s: &[u8], at: usize) -> usize
-    ensures { result ≡ at + lead (drop at s.now) }
+// How many bytes stand before the number's last one, where it is among as many as a number has at most.
+fn near_lead(s: &[u8]) -> Option<usize>
+    ensures { IsNearLead result s.now }
 {
-    let mut i = pass_runs(s, at);
-    while i < s.len() {
-        if s[i] < 128 {
-            return i;
-        }
-        i += 1;
-    }
-    i
+    s.iter().take(MOST_BYTES).position(|b| *b < 128)
 }
 
-// The same. It is near in every number that is right.
-fn last(s: &[u8], at: usize) -> usize
-    ensures { result ≡ at + lead (drop at s.now) }
+// The value of the number at the head that has n bytes before its last.
+fn value(s: &[u8], n: usize) -> usize
+    requires { (n < most_bytes) × (n < length s.now) }
+    ensures { result ≡ value_of s.now n }
 {
-    let mut i = at;
-    let mut n: usize = 0;
-    while n < MOST_BYTES {
-        if s.len() <= i {
-            return i;
-        }
-        if s[i] < 128 {
-            return i;
-        }
-        i += 1;
-        n += 1;
-    }
-    far_last(s, i)
-}
-
-// The value of the number at `at` that has n bytes before its last.
-fn value(s: &[u8], at: usize, n: usize) -> usize
-    requires { (n < most_bytes) × (at + n < length s.now) }
-    ensures { result ≡ value_of (drop at s.now) n }
-{
-    let first = wide(s[at]);
+    let first = usize::from(s[0]);
     if n == 0 {
         return first;
     }
-    let second = wide(s[at + 1]);
+    let second = usize::from(s[1]);
     if n == 1 {
-        return first % 128 + 128 * second;
+        return first % GROUP + GROUP * second;
     }
-    let third = wide(s[at + 2]);
-    first % 128 + 128 * (second % 128 + 128 * third)
+    let third = usize::from(s[2]);
+    first % GROUP + GROUP * (second % GROUP + GROUP * third)
 }
 
 // The number at `at`, of any length. What three bytes hold is never above the largest number.
-fn long_number(s: &[u8], at: usize) -> Num
-    ensures { result ≡ number_at s.now at }
+#[tactic(auto, using(crate::proofs::Numbers::no_rest))]
+fn long_number(s: &[u8], at: usize) -> Result<(usize, usize), Fault>
+    ensures { num_of result ≡ number_at s.now at }
 {
-    let end = last(s, at);
-    if s.len() <= end {
-        return Num::Bad(Fault::Cut);
+    let t = s.get(at..).ok_or(Fault::Cut)?;
+    let Some(n) = near_lead(t) else {
+        return Err(if has_far_last(t) {
+            Fault::Form
+        } else {
+            Fault::Cut
+        });
+    };
+    if 0 < n && t[n] == 0 {
+        return Err(Fault::Form);
     }
-    let n = end - at;
-    if MOST_BYTES <= n {
-        return Num::Bad(Fault::Form);
-    }
-    if 0 < n {
-        if s[end] == 0 {
-            return Num::Bad(Fault::Form);
-        }
-    }
-    Num::Got(value(s, at, n), end + 1)
+    Ok((value(t, n), at + n + 1))
 }
 
 // The number at `at` with the place after it, or what is wrong there; and what each case means by questions 1 and 2.
 // Most numbers of a file have one byte.
-pub fn decode(s: &[u8], at: usize) -> Num
-    ensures value { result ≡ number_at s.now at }
-    ensures result_value { num_means result ≡ meant_at s.now at }
+pub fn decode(s: &[u8], at: usize) -> Result<(usize, usize), Fault>
+    ensures value { num_of result ≡ number_at s.now at }
+    ensures result_value { num_means (num_of result) ≡ meant_at s.now at }
 {
-    if at < s.len() {
-        let first = wide(s[at]);
-        if first < 128 {
-            return Num::Got(first, at + 1);
-        }
+    match s.get(at) {
+        Some(first) if *first < 128 => Ok((usize::from(*first), at + 1)),
+        _ => long_number(s, at),
     }
-    long_number(s, at)
 }
 
 // Puts down the shortest form of a number, as far as there is room, and answers the place after it. The place has the

@@ -11,29 +11,25 @@ use files::read_full;
 
 const MOST_INPUT: usize = 245760;
 
-const HEAD_BYTES: usize = 3;
-
 fn print_row(rt: &impl Print, place: u64, row: Row) {
     let _ = println!(rt; "{place} {} {}", row.answer, row.left);
 }
 
-fn judge_all(rt: &impl Print, s: &[u8]) {
-    let mut at: usize = 0;
-    let mut place: u64 = 0;
-    while at < s.len() {
-        if s.len() - at < HEAD_BYTES {
+// The first case of the input: its number, its bytes behind their length in two bytes, and the rest.
+fn first_case(bytes: &[u8]) -> Option<(u8, &[u8], &[u8])> {
+    let (call, rest) = bytes.split_first()?;
+    let (case, next) = cases::counted(rest)?;
+    Some((*call, case, next))
+}
+
+fn judge_all(rt: &impl Print, input: &[u8]) {
+    let mut rest = input;
+    for place in 1..u64::MAX {
+        let Some((call, case, next)) = first_case(rest) else {
             return;
-        }
-        let size = cases::two(s[at + 1], s[at + 2]);
-        let from = at + HEAD_BYTES;
-        if s.len() - from < size {
-            return;
-        }
-        let end = from + size;
-        let row = cases::judge(s[at], &s[from..end]);
-        place += 1;
-        print_row(rt, place, row);
-        at = end;
+        };
+        print_row(rt, place, cases::judge(call, case));
+        rest = next;
     }
 }
 

@@ -1,6 +1,6 @@
 -- The bytes of a configuration's file put down group by group: what a loop has put down, how far that is, and that
--- the groups by columns are the model's file.
-use Prim.Native.Nat.{ℕ, ◌+◌, ◌*◌, ◌≤◌, ◌<◌}
+-- the groups are the model's file.
+use Prim.Native.Nat.{ℕ, ◌+◌, ◌-◌, ◌*◌, ◌≤◌, ◌<◌}
 use mathlib.Core.Path.{◌≡◌, refl, sym, ap, ◌∙◌, subst}
 use mathlib.Core.List.{List, [], ◌∷◌, ◌++◌, append_assoc, append-nil}
 use mathlib.Core.Bool.{Bool, true, false, cond}
@@ -12,7 +12,7 @@ use borrow.Author.Tests.{le-leb, lt-leb, leb-true}
 use Rattle.model.specs.Number.{most_bytes, bytes_of}
 use Rattle.model.specs.Base.{all}
 use Rattle.model.specs.Config.{most_entries, most_edition, serial_edition, most_serial}
-use Rattle.model.specs.Config.{entry_place, hardcoded_of, serial_of}
+use Rattle.model.specs.Config.{hardcoded_of, serial_of}
 use Rattle.model.specs.ConfigFile.{done, field, absent, counts_row}
 use Rattle.model.specs.ConfigWrite.{
   rows_from,
@@ -31,6 +31,7 @@ use Rattle.model.specs.ConfigWrite.{
   in_ranges,
 }
 use Rattle.model.specs.declared.Counts.{Counts}
+use Rattle.model.specs.declared.Values.{Values}
 use Rattle.model.specs.declared.Config.{Config}
 use Rattle.model.proofs.Copied.{rows_more, rows_same}
 use Rattle.model.proofs.FileLength.{bytes_most, from_most, rows-bytes}
@@ -49,22 +50,15 @@ use Rattle.writer.specs.Bytes.{
   entry_bytes_of,
   value_bytes,
 }
-use Rattle.writer.specs.Tests.{serial_most, device_right}
+use Rattle.writer.specs.Tests.{serial_most}
 use Rattle.writer.proofs.Testing.{serial_some, device-same}
 
--- a number, three numbers, and the counts
+-- three numbers, and the counts
 module _ (at : ℕ) (out : List ℕ) where
-  pub number-placed : (b w : ℕ) {p : ℕ} {out₁ : List ℕ} → w ≡ b → Placed (bytes_of w) at out p out₁
-      → Placed (bytes_of b) at out p out₁ × (p ≤ at + most_bytes)
-  number-placed b w {p} {out₁} e h = (
-    subst (λ (x : ℕ). Placed (bytes_of x) at out p out₁) e h,
-    omega (arith, h.0, bytes_most w),
-  )
-
-  pub three-placed : (a b c : ℕ) {p q r : ℕ} {out₁ out₂ out₃ : List ℕ} → Placed (bytes_of a) at out p out₁
+  pub three_placed : (a b c : ℕ) {p q r : ℕ} {out₁ out₂ out₃ : List ℕ} → Placed (bytes_of a) at out p out₁
       → Placed (bytes_of b) p out₁ q out₂ → Placed (bytes_of c) q out₂ r out₃ → Placed (three a b c) at out r out₃
   unfolding three
-  three-placed a b c {p} {q} {r} {out₁} h k l =
+  three_placed a b c {p} {q} {r} {out₁} h k l =
       placed_then at out (bytes_of a) (bytes_of b ++ bytes_of c) h (placed_then p out₁ (bytes_of b) (bytes_of c) k l)
 
 three-most : (a b c : ℕ) → length (three a b c) ≤ 3 * most_bytes
@@ -80,12 +74,12 @@ three-most a b c =
     )
 
 module _ (out : List ℕ) (counts : Counts) where
-  pub counts-placed : {p q r : ℕ} {out₁ out₂ out₃ : List ℕ}
+  pub counts_placed : {p q r : ℕ} {out₁ out₂ out₃ : List ℕ}
       → Placed (three counts.edition counts.drivers counts.devices) 0 out p out₁
       → Placed (bytes_of counts.objects) p out₁ q out₂ → Placed (bytes_of counts.values) q out₂ r out₃
       → Placed (row_bytes counts_row (counts_numbers counts)) 0 out r out₃
   unfolding three row_bytes
-  counts-placed {p} {q} {r} {out₁} {out₂} {out₃} h k l =
+  counts_placed {p} {q} {r} {out₁} {out₂} {out₃} h k l =
       let o = bytes_of counts.objects in
       let v = bytes_of counts.values in
       let d = bytes_of counts.drivers in
@@ -109,10 +103,10 @@ module _ (edition number serial at : ℕ) (out : List ℕ) {p : ℕ} {out₁ : L
     omega (arith, h.0, bytes_most number),
   )
 
-  pub device-serial : serial_edition ≤ edition → {q : ℕ} {out₂ : List ℕ} → Placed (bytes_of serial) p out₁ q out₂
+  pub device_serial : serial_edition ≤ edition → {q : ℕ} {out₂ : List ℕ} → Placed (bytes_of serial) p out₁ q out₂
       → Placed (with_serial edition number serial) at out q out₂ × (q ≤ at + 2 * most_bytes)
   unfolding with_serial
-  device-serial l k = (
+  device_serial l k = (
     rw (le-leb serial_edition edition l) (placed_then at out (bytes_of number) (bytes_of serial) h k),
     omega (arith, h.0, k.0, bytes_most number, bytes_most serial),
   )
@@ -123,61 +117,57 @@ module _ (f : ℕ → List ℕ) (at : ℕ) (out : List ℕ) where
   unfolding rows_from
   rows_start = placed_nil at out
 
-  pub rows_turn : (i : ℕ) {p q : ℕ} {out₁ out₂ : List ℕ} → Placed (rows_from f i 0) at out p out₁
+  rows_next : (i : ℕ) {p q : ℕ} {out₁ out₂ : List ℕ} → Placed (rows_from f i 0) at out p out₁
       → Placed (f (i + 1)) p out₁ q out₂ → Placed (rows_from f (i + 1) 0) at out q out₂
-  rows_turn i {p} {q} {out₁} {out₂} h k =
+  rows_next i {p} {q} {out₁} {out₂} h k =
       let e : rows_from f (i + 1) 0 ≡ rows_from f i 0 ++ f (i + 1) =
       ap (λ (n : ℕ). rows_from f n 0) (add-one i) ∙ rows_more f i 0
       ∙ ap (λ (n : ℕ). rows_from f i 0 ++ f n) (omega arith) in
       subst (λ (t : List ℕ). Placed t at out q out₂) (sym e) (placed_then at out (rows_from f i 0) (f (i + 1)) h k)
 
-  pub rows_end : (n i : ℕ) → i ≤ n → n ≤ i → {p : ℕ} {out₁ : List ℕ} → Placed (rows_from f i 0) at out p out₁
-      → Placed (rows_from f n 0) at out p out₁
-  rows_end n i l m {p} {out₁} h =
-      subst (λ (j : ℕ). Placed (rows_from f j 0) at out p out₁) (omega arith) h
+  -- the numbers before o are put down, and then o
+  pub rows_turn : (o : ℕ) → 1 ≤ o → {p q : ℕ} {out₁ out₂ : List ℕ}
+      → Placed (rows_from f (o - 1) 0) at out p out₁ → Placed (f o) p out₁ q out₂
+      → Placed (rows_from f (o + 1 - 1) 0) at out q out₂
+  rows_turn o first {p} {q} {out₁} {out₂} h k =
+      let e : o - 1 + 1 ≡ o = omega arith in
+      let d : o - 1 + 1 ≡ o + 1 - 1 = omega arith in
+      subst (λ (i : ℕ). Placed (rows_from f i 0) at out q out₂) d
+      (rows_next (o - 1) h (subst (λ (i : ℕ). Placed (f i) p out₁ q out₂) (sym e) k))
 
--- an entry more, from its place in the table
-pub entry_turn : (entries : List ℕ) (v at : ℕ) (out : List ℕ) (i e : ℕ) {p q : ℕ} {out₁ out₂ : List ℕ}
-    → e ≡ entry_place v (i + 1) → Placed (rows_from (entry_bytes_of entries v) i 0) at out p out₁
-    → Placed (three (get_or entries e 0) (get_or entries (e + 1) 0) (get_or entries (e + 2) 0)) p out₁ q out₂
-    → Placed (rows_from (entry_bytes_of entries v) (i + 1) 0) at out q out₂
-unfolding entry_bytes_of
-entry_turn entries v at out i e {p} {q} {out₁} {out₂} z h k =
-    rows_turn (entry_bytes_of entries v) at out i h
-    (subst
-    (λ (x : ℕ). Placed (three (get_or entries x 0) (get_or entries (x + 1) 0) (get_or entries (x + 2) 0)) p out₁ q out₂)
-    z k)
+  pub rows_end : (n o : ℕ) → o ≡ n + 1 → {p : ℕ} {out₁ : List ℕ} → Placed (rows_from f (o - 1) 0) at out p out₁
+      → Placed (rows_from f n 0) at out p out₁
+  rows_end n o e {p} {out₁} h = subst (λ (j : ℕ). Placed (rows_from f j 0) at out p out₁) (omega arith) h
 
 -- how long each is
-pub entry-most : (entries : List ℕ) (v j : ℕ) → length (entry_bytes_of entries v j) ≤ 3 * most_bytes
+pub entry-most : (t : Values) (v j : ℕ) → length (entry_bytes_of t v j) ≤ 3 * most_bytes
 unfolding entry_bytes_of
-entry-most entries v j = three-most _ _ _
+entry-most t v j = three-most _ _ _
 
-pub value-most : (count entries : List ℕ) (v : ℕ) → get_or count v 0 ≤ most_entries
-    → length (value_bytes count entries v) ≤ any_value_bytes
+pub value-most : (t : Values) (v : ℕ) → get_or t.count v 0 ≤ most_entries → length (value_bytes t v) ≤ any_value_bytes
 unfolding value_bytes
-value-most count entries v h =
-    let n = get_or count v 0 in
+value-most t v h =
+    let n = get_or t.count v 0 in
     omega (
       arith,
       h,
-      length-append (bytes_of n) (rows_from (entry_bytes_of entries v) n 0),
+      length-append (bytes_of n) (rows_from (entry_bytes_of t v) n 0),
       bytes_most n,
-      from_most (entry_bytes_of entries v) (3 * most_bytes) n 0 (λ j low high. entry-most entries v j),
+      from_most (entry_bytes_of t v) (3 * most_bytes) n 0 (λ j low high. entry-most t v j),
     )
 
 -- a value, and how far it goes
-module _ (count entries : List ℕ) (v : ℕ) (few : get_or count v 0 ≤ most_entries) (at : ℕ) (out : List ℕ) where
-  pub value-placed : {p q : ℕ} {out₁ out₂ : List ℕ} → Placed (bytes_of (get_or count v 0)) at out p out₁
-      → Placed (rows_from (entry_bytes_of entries v) (get_or count v 0) 0) p out₁ q out₂
-      → Placed (value_bytes count entries v) at out q out₂ × (q ≤ at + any_value_bytes)
+module _ (t : Values) (v : ℕ) (few : get_or t.count v 0 ≤ most_entries) (at : ℕ) (out : List ℕ) where
+  pub value_placed : {p q : ℕ} {out₁ out₂ : List ℕ} → Placed (bytes_of (get_or t.count v 0)) at out p out₁
+      → Placed (rows_from (entry_bytes_of t v) (get_or t.count v 0) 0) p out₁ q out₂
+      → Placed (value_bytes t v) at out q out₂ × (q ≤ at + any_value_bytes)
   unfolding value_bytes
-  value-placed {p} {q} {out₁} {out₂} h k =
-      let n = get_or count v 0 in
-      let w = placed_then at out (bytes_of n) (rows_from (entry_bytes_of entries v) n 0) h k in
-      (w, omega (arith, w.0, value-most count entries v few))
+  value_placed {p} {q} {out₁} {out₂} h k =
+      let n = get_or t.count v 0 in
+      let w = placed_then at out (bytes_of n) (rows_from (entry_bytes_of t v) n 0) h k in
+      (w, omega (arith, w.0, value-most t v few))
 
--- ---- the groups by columns are the model's
+-- ---- the groups are the model's
 module _ (config : Config) where
   three-row : (a b c : ℕ) → (bytes_of a ++ (bytes_of b ++ (bytes_of c ++ []))) ++ [] ≡ three a b c
   unfolding three
@@ -186,12 +176,12 @@ module _ (config : Config) where
       ∙ ap (λ (t : List ℕ). bytes_of a ++ (bytes_of b ++ t)) (append-nil (bytes_of c))
 
   object-row : (o : ℕ) → rows_bytes (object_rows config.counts config.objects o)
-      ≡ object_bytes config.objects.kind config.objects.class config.objects.owner o
+      ≡ object_bytes config.objects o
   unfolding rows_bytes row_bytes object_bytes
   object-row o = three-row _ _ _
 
   device-row : (c : ℕ) → rows_bytes (device_rows config.counts config.devices c)
-      ≡ device_bytes config.counts.edition config.devices.hardcoded config.devices.serial c
+      ≡ device_bytes config.counts.edition config.devices c
   unfolding rows_bytes row_bytes device_bytes with_serial
   device-row c =
       append-nil _
@@ -204,55 +194,55 @@ module _ (config : Config) where
       go s false = refl
 
   entry_row_lem : (v j : ℕ) → rows_bytes (entry_rows config.counts config.objects.kind config.values v j)
-      ≡ entry_bytes_of config.values.entries v j
+      ≡ entry_bytes_of config.values v j
   unfolding rows_bytes row_bytes entry_bytes_of
   entry_row_lem v j = three-row _ _ _
 
   value_row_lem : (v : ℕ) → rows_bytes (value_rows config.counts config.objects.kind config.values v)
-      ≡ value_bytes config.values.count config.values.entries v
+      ≡ value_bytes config.values v
   unfolding rows_bytes row_bytes value_bytes
   value_row_lem v =
       let n = get_or config.values.count v 0 in
       let g = entry_rows config.counts config.objects.kind config.values v in
-      let e : rows_bytes (rows_from g n 0) ≡ rows_from (entry_bytes_of config.values.entries v) n 0 =
+      let e : rows_bytes (rows_from g n 0) ≡ rows_from (entry_bytes_of config.values v) n 0 =
       rows-bytes g n 0
-      ∙ rows_same (λ j. rows_bytes (g j)) (entry_bytes_of config.values.entries v) n 0
+      ∙ rows_same (λ j. rows_bytes (g j)) (entry_bytes_of config.values v) n 0
       (λ j low high. entry_row_lem v j) in
       let f = append-nil (bytes_of n) in
       λ x. f x ++ e x
 
   objects-bytes : rows_bytes (object_table config)
-      ≡ rows_from (object_bytes config.objects.kind config.objects.class config.objects.owner)
+      ≡ rows_from (object_bytes config.objects)
       config.counts.objects 0
   objects-bytes =
       rows-bytes (object_rows config.counts config.objects) config.counts.objects 0
       ∙ rows_same _ _ config.counts.objects 0 (λ o low high. object-row o)
 
   devices-bytes : rows_bytes (device_table config)
-      ≡ rows_from (device_bytes config.counts.edition config.devices.hardcoded config.devices.serial)
+      ≡ rows_from (device_bytes config.counts.edition config.devices)
       config.counts.devices 0
   devices-bytes =
       rows-bytes (device_rows config.counts config.devices) config.counts.devices 0
       ∙ rows_same _ _ config.counts.devices 0 (λ c low high. device-row c)
 
   values-bytes : rows_bytes (value_table config)
-      ≡ rows_from (value_bytes config.values.count config.values.entries) config.counts.values 0
+      ≡ rows_from (value_bytes config.values) config.counts.values 0
   values-bytes =
       rows-bytes (value_rows config.counts config.objects.kind config.values) config.counts.values 0
       ∙ rows_same _ _ config.counts.values 0 (λ v low high. value_row_lem v)
 
   -- one group after the other is the file
-  pub file-placed : (out : List ℕ) {a b c d : ℕ} {out₁ out₂ out₃ out₄ : List ℕ}
+  pub file_placed : (out : List ℕ) {a b c d : ℕ} {out₁ out₂ out₃ out₄ : List ℕ}
       → Placed (row_bytes counts_row (counts_numbers config.counts)) 0 out a out₁
-      → Placed (rows_from (object_bytes config.objects.kind config.objects.class config.objects.owner)
+      → Placed (rows_from (object_bytes config.objects)
       config.counts.objects 0) a out₁ b out₂
-      → Placed (rows_from (device_bytes config.counts.edition config.devices.hardcoded config.devices.serial)
+      → Placed (rows_from (device_bytes config.counts.edition config.devices)
       config.counts.devices 0) b out₂ c out₃
-      → Placed (rows_from (value_bytes config.values.count config.values.entries) config.counts.values 0)
+      → Placed (rows_from (value_bytes config.values) config.counts.values 0)
       c out₃ d out₄
       → Placed (file_of config) 0 out d out₄
   unfolding file_of
-  file-placed out {a} {b} {c} {d} {out₁} {out₂} {out₃} {out₄} h o e v =
+  file_placed out {a} {b} {c} {d} {out₁} {out₂} {out₃} {out₄} h o e v =
       rw (objects-bytes, devices-bytes, values-bytes)
       (placed_then 0 out _ _ h (placed_then a out₁ _ _ o (placed_then b out₂ _ _ e v)))
 
@@ -261,15 +251,14 @@ module _ (config : Config) where
     pub few_of : FewCounts config.counts
     few_of = (ranges_asked config h).few
 
-    pub entries-few : (v : ℕ) → 1 ≤ v → v ≤ config.counts.values → get_or config.values.count v 0 ≤ most_entries
-    entries-few = few-entries config (ranges_asked config h)
+    pub entries_few : (v : ℕ) → 1 ≤ v → v ≤ config.counts.values → get_or config.values.count v 0 ≤ most_entries
+    entries_few = few-entries config (ranges_asked config h)
 
-    pub edition-few : config.counts.edition ≤ most_edition
-    edition-few = (row_head 1 most_edition _ config.counts.edition _ (ranges_asked config h).counts).1
+    pub edition_few : config.counts.edition ≤ most_edition
+    edition_few = (row_head 1 most_edition _ config.counts.edition _ (ranges_asked config h).counts).1
 
     pub serials_few : (c : ℕ) → 1 ≤ c → c ≤ config.counts.devices → serial_edition ≤ config.counts.edition
         → serial_of config c ≤ most_serial
-    unfolding device_right
     serials_few c low high l =
         let n = config.counts in
         let right =
@@ -279,3 +268,5 @@ module _ (config : Config) where
         subst (λ (top : ℕ). serial_of config c ≤ top) (sym (serial_some n.edition l))
         (leb-true (serial_of config c) (serial_most n.edition)
         (and_r (leb (hardcoded_of config c) n.values) (leb (serial_of config c) (serial_most n.edition)) right))
+
+pub ruleset few_laws = (few_of, entries_few, edition_few, serials_few)

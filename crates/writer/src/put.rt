@@ -9,21 +9,19 @@ ghost use Rattle.model.specs.ConfigWrite.{counts_numbers, rows_from, row_bytes};
 ghost use Rattle.model.specs.ConfigWrite.{in_ranges, file_of};
 ghost use Rattle.page.specs.Page.{Placed};
 ghost use Rattle.writer.specs.Bytes.{any_value_bytes, any_file_bytes};
-ghost use Rattle.writer.specs.Bytes.{three, with_serial, object_bytes, device_bytes, entry_bytes_of, value_bytes};
+ghost use Rattle.writer.specs.Bytes.{three, with_serial, object_bytes, device_bytes, value_bytes};
 
-use model::{
-    Config, Counts, DEVICE_SLOTS, ENTRY_BYTES, ENTRY_SLOTS, OBJECT_SLOTS, SERIAL_EDITION,
-    VALUE_SLOTS, entry_place, wide,
-};
+use model::{Config, Counts, Devices, Objects, SERIAL_EDITION, Values, entry_place};
 use varint::encode;
 
 // A number of one byte in memory.
+#[tactic(auto, using(model::proofs::FileLength::bytes_most))]
 fn put_number(out: &mut [u8], at: usize, b: u8) -> usize
     requires { at ≤ most_number }
     ensures placed { Placed (bytes_of b) at out.old result out.new }
     ensures upper_bound { result ≤ at + most_bytes }
 {
-    encode(out, at, wide(b))
+    encode(out, at, b as usize)
 }
 
 // Three numbers, one after the other.
@@ -49,26 +47,15 @@ fn put_counts(out: &mut [u8], counts: Counts) -> usize
 }
 
 // Kind, class and owner of the objects 1 to n.
-fn put_objects<'a>(
-    out: &mut [u8],
-    at: usize,
-    n: u8,
-    kind: &'a [u8; OBJECT_SLOTS],
-    class: &'a [u8; OBJECT_SLOTS],
-    owner: &'a [u8; OBJECT_SLOTS],
-) -> usize
+fn put_objects(out: &mut [u8], at: usize, n: u8, objects: &Objects) -> usize
     requires n_le_most_objects { n ≤ most_objects }
     requires at_le_any_file_bytes { at ≤ any_file_bytes }
-    ensures placed { Placed (rows_from (object_bytes kind.now class.now owner.now) n 0) at
-        out.old result out.new }
+    ensures placed { Placed (rows_from (object_bytes objects.now) n 0) at out.old result out.new }
     ensures upper_bound { result ≤ at + 3 * most_bytes * n }
 {
-    let end = n as usize;
-    let mut i: usize = 0;
     let mut p = at;
-    while i < end {
-        i += 1;
-        p = put_three(out, p, kind[i], class[i], owner[i]);
+    for o in 1..n as usize + 1 {
+        p = put_three(out, p, objects.kind[o], objects.class[o], objects.owner[o]);
     }
     p
 }
@@ -88,119 +75,61 @@ fn put_device(out: &mut [u8], at: usize, edition: u32, hardcoded: u8, serial: u3
 }
 
 // The devices 1 to n.
-fn put_devices<'a>(
-    out: &mut [u8],
-    at: usize,
-    edition: u32,
-    n: u8,
-    hardcoded: &'a [u8; DEVICE_SLOTS],
-    serial: &'a [u32; DEVICE_SLOTS],
-) -> usize
+fn put_devices(out: &mut [u8], at: usize, edition: u32, n: u8, devices: &Devices) -> usize
     requires n_le_most_devices { n ≤ most_devices }
-    requires by_index { (c : ℕ) → 1 ≤ c → c ≤ n → serial_edition ≤ edition → get_or serial.now c 0 ≤ most_serial }
+    requires by_index { (c : ℕ) → 1 ≤ c → c ≤ n → serial_edition ≤ edition
+        → get_or devices.now.serial c 0 ≤ most_serial }
     requires at_le_any_file_bytes { at ≤ any_file_bytes }
-    ensures placed { Placed (rows_from (device_bytes edition hardcoded.now serial.now) n 0) at
-        out.old result out.new }
+    ensures placed { Placed (rows_from (device_bytes edition devices.now) n 0) at out.old result out.new }
     ensures upper_bound { result ≤ at + 2 * most_bytes * n }
 {
-    let end = n as usize;
-    let mut i: usize = 0;
     let mut p = at;
-    while i < end {
-        i += 1;
-        p = put_device(out, p, edition, hardcoded[i], serial[i]);
-    }
-    p
-}
-
-// Entries 1 to n of value v.
-fn put_entries(out: &mut [u8], at: usize, entries: &[u8; ENTRY_SLOTS], v: u8, n: u8) -> usize
-    requires v_le_most_values { (v ≤ most_values) × (n ≤ most_entries) }
-    requires any_file_bytes_bound { at + 2 * any_file_bytes ≤ most_number }
-    ensures { Placed (rows_from (entry_bytes_of entries.now v) n 0) at out.old result out.new }
-{
-    let mut i: u8 = 0;
-    let mut e = entry_place(v, 1);
-    let mut p = at;
-    while i < n {
-        p = put_three(out, p, entries[e], entries[e + 1], entries[e + 2]);
-        e += ENTRY_BYTES;
-        i += 1;
+    for c in 1..n as usize + 1 {
+        p = put_device(out, p, edition, devices.hardcoded[c], devices.serial[c]);
     }
     p
 }
 
 // Value v: its entry count, and then its entries.
-fn put_value<'a>(
-    out: &mut [u8],
-    at: usize,
-    count: &'a [u8; VALUE_SLOTS],
-    entries: &'a [u8; ENTRY_SLOTS],
-    v: u8,
-) -> usize
-    requires v_le_most_values { (v ≤ most_values) × (get_or count.now v 0 ≤ most_entries) }
+fn put_value(out: &mut [u8], at: usize, v: u8, values: &Values) -> usize
+    requires places { (v ≤ most_values) × (get_or values.now.count v 0 ≤ most_entries) }
     requires any_file_bytes_bound { at + 3 * any_file_bytes ≤ most_number }
-    ensures placed { Placed (value_bytes count.now entries.now v) at out.old result
-        out.new }
+    ensures placed { Placed (value_bytes values.now v) at out.old result out.new }
     ensures upper_bound { result ≤ at + any_value_bytes }
 {
-    let i = v as usize;
-    let n = count[i];
-    let p = put_number(out, at, n);
-    put_entries(out, p, entries, v, n)
+    let entries = &values.entries;
+    let n = values.count[v as usize];
+    let mut p = put_number(out, at, n);
+    for j in 1..n + 1 {
+        let e = entry_place(v, j);
+        p = put_three(out, p, entries[e], entries[e + 1], entries[e + 2]);
+    }
+    p
 }
 
 // The values 1 to n.
-fn put_values<'a>(
-    out: &mut [u8],
-    at: usize,
-    n: u8,
-    count: &'a [u8; VALUE_SLOTS],
-    entries: &'a [u8; ENTRY_SLOTS],
-) -> usize
+fn put_values(out: &mut [u8], at: usize, n: u8, values: &Values) -> usize
     requires n_le_most_values { n ≤ most_values }
-    requires by_index { (v : ℕ) → 1 ≤ v → v ≤ n → get_or count.now v 0 ≤ most_entries }
+    requires by_index { (v : ℕ) → 1 ≤ v → v ≤ n → get_or values.now.count v 0 ≤ most_entries }
     requires at_le_any_file_bytes { at ≤ any_file_bytes }
-    ensures { Placed (rows_from (value_bytes count.now entries.now) n 0) at out.old result
-        out.new }
+    ensures { Placed (rows_from (value_bytes values.now) n 0) at out.old result out.new }
 {
-    let mut i: u8 = 0;
     let mut p = at;
-    while i < n {
-        i += 1;
-        p = put_value(out, p, count, entries, i);
+    for v in 1..n + 1 {
+        p = put_value(out, p, v, values);
     }
     p
 }
 
 // The whole file, from the start of the area.
-pub(crate) fn put_file(out: &mut [u8], config: Config) -> usize
-    requires { in_ranges config ≡ true }
-    ensures { Placed (file_of config) 0 out.old result out.new }
+#[tactic(auto, using(crate::proofs::Putting::few_laws))]
+pub(crate) fn put_file(out: &mut [u8], config: &Config) -> usize
+    requires { in_ranges config.now ≡ true }
+    ensures { Placed (file_of config.now) 0 out.old result out.new }
 {
     let counts = config.counts;
     let a = put_counts(out, counts);
-    let b = put_objects(
-        out,
-        a,
-        counts.objects,
-        &config.objects.kind,
-        &config.objects.class,
-        &config.objects.owner,
-    );
-    let c = put_devices(
-        out,
-        b,
-        counts.edition,
-        counts.devices,
-        &config.devices.hardcoded,
-        &config.devices.serial,
-    );
-    put_values(
-        out,
-        c,
-        counts.values,
-        &config.values.count,
-        &config.values.entries,
-    )
+    let b = put_objects(out, a, counts.objects, &config.objects);
+    let c = put_devices(out, b, counts.edition, counts.devices, &config.devices);
+    put_values(out, c, counts.values, &config.values)
 }

@@ -1,98 +1,55 @@
--- `config::load` meets its contract: each group that goes on is a `group_go`, the one that is refused a `group_stop`;
+-- `config::load` meets its contract: each group that goes on is `group_go`, the one that is refused ends the reading;
 -- then the first no among questions 4 to 6 decides. Assumes nothing.
-use mathlib.Core.Path.{refl, ◌∙◌}
-use Rattle.model.specs.ConfigFile.{objects_to, devices_to, values_to}
-use Rattle.config.proofs.Readers
-use Rattle.sound.proofs.Questions
+use Rattle.std.proofs.lemmas.Result.{err_from_is_err_and}
+use Rattle.config.proofs.Loading
 use Rattle.config.proofs.load.Goals as goal
 
-pub returns-in_default : goal.returns-in_default
-returns-in_default c =
-    Readers.load-stop _ c.read_counts-head.ensures
-    c.in_default.is (rw (← c.head_question.ensures) c.refuse.ensures)
+pub returns-in_err-counts : goal.returns-in_err-counts
+returns-in_err-counts c =
+    let p = err_from_is_err_and c.from_residual.result c.from_residual.ensures.1 in
+    rw (p.1, p.2)
+    (Loading.counts_stop _ _ c.in_err-counts.ensures.value)
 
-pub read_objects-p-requires : goal.read_objects-p-requires
-read_objects-p-requires c =
-    Readers.counts-within _ c.read_counts-head.ensures
-    c.in-Counted.is
+pub returns-in_err-at : goal.returns-in_err-at
+returns-in_err-at c =
+    let p = err_from_is_err_and c.from_residual-in_err-at.result c.from_residual-in_err-at.ensures.1 in
+    rw (p.1, p.2)
+    (Loading.objects_stop _ _ _ c.in_ok-counts.ensures.value _ c.blank-config.ensures _ _ c.in_err-at.ensures)
 
-pub returns-in_default-p : goal.returns-in_default-p
-unfolding objects_to
-returns-in_default-p c =
-    Readers.objects-stop _ c.read_counts-head.ensures c.in-Counted.is
-    c.read_objects-p.ensures c.in_default-p.is
-    (rw (← c.reading_question.ensures) c.refuse-in_default-p.ensures)
+pub returns-in_err-at-2 : goal.returns-in_err-at-2
+returns-in_err-at-2 c =
+    let p = err_from_is_err_and c.from_residual-in_err-at-2.result c.from_residual-in_err-at-2.ensures.1 in
+    rw (p.1, p.2)
+    (Loading.devices_stop _ _ _ c.in_ok-counts.ensures.value _ c.blank-config.ensures _ _ c.in_ok-at.ensures _ _
+    c.in_err-at-2.ensures)
 
-pub read_devices-q-requires : goal.read_devices-q-requires
-read_devices-q-requires c =
-    Readers.counts-within _ c.read_counts-head.ensures
-    c.in-Counted.is
+pub returns-in_err-at-3 : goal.returns-in_err-at-3
+returns-in_err-at-3 c =
+    let p = err_from_is_err_and c.from_residual-in_err-at-3.result c.from_residual-in_err-at-3.ensures.1 in
+    rw (p.1, p.2)
+    (Loading.values_stop _ _ _ c.in_ok-counts.ensures.value _ c.blank-config.ensures _ _ c.in_ok-at.ensures _ _
+    c.in_ok-at-2.ensures _ _ c.in_err-at-3.ensures)
 
-pub returns-in_default-q : goal.returns-in_default-q
-unfolding objects_to devices_to
-returns-in_default-q c =
-    Readers.devices-stop _ c.read_counts-head.ensures c.in-Counted.is
-    c.read_objects-p.ensures c.in-At.is
-    c.read_devices-q.ensures c.in_default-q.is
-    (rw (← c.reading_question-in_default-q.ensures) c.refuse-in_default-q.ensures)
+pub returns-then-at-file : goal.returns-then-at-file
+returns-then-at-file c =
+    Loading.all_go _ _ _ c.in_ok-counts.ensures.value _ c.blank-config.ensures _ _ c.in_ok-at.ensures _ _
+    c.in_ok-at-2.ensures _ _ c.in_ok-at-3.ensures
+    (Loading.left_over _ _ _ c.if-at-file.true)
 
-pub read_values-r-requires : goal.read_values-r-requires
-read_values-r-requires c =
-    Readers.counts-within _ c.read_counts-head.ensures
-    c.in-Counted.is
+pub returns-then-not-is_paired : goal.returns-then-not-is_paired
+returns-then-not-is_paired c =
+    Loading.all_go _ _ _ c.in_ok-counts.ensures.value _ c.blank-config.ensures _ _ c.in_ok-at.ensures _ _
+    c.in_ok-at-2.ensures _ _ c.in_ok-at-3.ensures
+    (Loading.unpaired _ _ _ c.if-at-file.false c.if-not-is_paired.ensures)
 
-pub returns-in_default-r : goal.returns-in_default-r
-unfolding objects_to devices_to values_to
-returns-in_default-r c =
-    Readers.values-stop _ c.read_counts-head.ensures c.in-Counted.is
-    c.read_objects-p.ensures c.in-At.is
-    c.read_devices-q.ensures c.in-At-q.is
-    c.read_values-r.ensures c.in_default-r.is
-    (rw (← c.reading_question-in_default-r.ensures) c.refuse-in_default-r.ensures)
-
-pub returns-then-end-file : goal.returns-then-end-file
-unfolding objects_to devices_to values_to
-returns-then-end-file c =
-    Readers.all_go _ c.read_counts-head.ensures c.in-Counted.is
-    c.read_objects-p.ensures c.in-At.is
-    c.read_devices-q.ensures c.in-At-q.is
-    c.read_values-r.ensures c.in-At-r.is
-    (Readers.left_over _ _ _ c.if-end-file.true c.refuse-then-end-file.ensures)
-
-pub is_paired-paired-requires-clause-within : goal.is_paired-paired-requires-clause-within
-is_paired-paired-requires-clause-within c = Readers.counts-within _ c.read_counts-head.ensures c.in-Counted.is
-
-pub is_paired-paired-requires-clause-owned_value : goal.is_paired-paired-requires-clause-owned_value
-is_paired-paired-requires-clause-owned_value c = refl
-
-pub is_restrained-restrained-requires : goal.is_restrained-restrained-requires
-is_restrained-restrained-requires c =
-    Readers.counts-within _ c.read_counts-head.ensures c.in-Counted.is
-
-pub returns-then-no-ne0 : goal.returns-then-no-ne0
-unfolding objects_to devices_to values_to
-returns-then-no-ne0 c =
-    Readers.all_go _ c.read_counts-head.ensures c.in-Counted.is
-    c.read_objects-p.ensures c.in-At.is
-    c.read_devices-q.ensures c.in-At-q.is
-    c.read_values-r.ensures c.in-At-r.is
-    (Readers.not_sound _ _ _
-    (Readers.all_read _ _ _ c.if-end-file.false
-    (c.is_paired-paired.ensures ∙ Questions.paired_same _)
-    (c.is_restrained-restrained.ensures ∙ Questions.restrained-same _)
-    c.first_no-no.ensures)
-    c.if-no-ne0.true c.refuse-then-no-ne0.ensures)
+pub returns-then-not-is_restrained : goal.returns-then-not-is_restrained
+returns-then-not-is_restrained c =
+    Loading.all_go _ _ _ c.in_ok-counts.ensures.value _ c.blank-config.ensures _ _ c.in_ok-at.ensures _ _
+    c.in_ok-at-2.ensures _ _ c.in_ok-at-3.ensures
+    (Loading.unrestrained _ _ _ c.if-at-file.false c.if-not-is_paired.ensures c.if-not-is_restrained.ensures)
 
 pub returns : goal.returns
-unfolding objects_to devices_to values_to
 returns c =
-    Readers.all_go _ c.read_counts-head.ensures c.in-Counted.is
-    c.read_objects-p.ensures c.in-At.is
-    c.read_devices-q.ensures c.in-At-q.is
-    c.read_values-r.ensures c.in-At-r.is
-    (Readers.accepts _ _ _
-    (Readers.all_read _ _ _ c.if-end-file.false
-    (c.is_paired-paired.ensures ∙ Questions.paired_same _)
-    (c.is_restrained-restrained.ensures ∙ Questions.restrained-same _)
-    c.first_no-no.ensures)
-    c.if-no-ne0.false c.accept.ensures)
+    Loading.all_go _ _ _ c.in_ok-counts.ensures.value _ c.blank-config.ensures _ _ c.in_ok-at.ensures _ _
+    c.in_ok-at-2.ensures _ _ c.in_ok-at-3.ensures
+    (Loading.accepts _ _ _ c.if-at-file.false c.if-not-is_paired.ensures c.if-not-is_restrained.ensures)

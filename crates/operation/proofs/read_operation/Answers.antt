@@ -1,29 +1,22 @@
--- `operation::read_operation` meets its contract: each way out is a law of the whole operation. Assumes nothing.
-use mathlib.Core.Path.{refl}
-use Rattle.operation.proofs.Parsing
+-- `operation::read_operation` meets its contract: what cannot be read is refused, and so is what is left over.
+-- Assumes nothing.
+use Rattle.std.proofs.Common.{arith}
+use Rattle.std.proofs.lemmas.Grind.{common_steps}
+use Rattle.model.specs.Operation.{read_operation_by, taken, refused, read, ended}
 use Rattle.operation.proofs.read_operation.Goals as goal
 
-pub returns-in_default : goal.returns-in_default
-returns-in_default c =
-    Parsing.whole_bad _ c.number_at-f.ensures c.in_default.is
-    c.refusal.ensures
+pub returns-in_err-code : goal.returns-in_err-code
+unfolding read_operation_by taken refused read ended
+returns-in_err-code c = grind (arith, common_steps)
 
-pub returns-then-parse-ne0 : goal.returns-then-parse-ne0
-returns-then-parse-ne0 c =
-    Parsing.whole-stop _ c.number_at-f.ensures
-    c.in-Got.is c.arguments-parse.ensures
-    c.if-parse-ne0.true c.refusal-then-parse-ne0.ensures
+pub returns-in_err-op : goal.returns-in_err-op
+unfolding read_operation_by taken refused read ended
+returns-in_err-op c = grind (arith, common_steps)
 
-pub returns-then-parse-s : goal.returns-then-parse-s
-returns-then-parse-s c =
-    Parsing.whole-left _ c.number_at-f.ensures
-    c.in-Got.is
-    c.arguments-parse.ensures c.if-parse-ne0.false
-    c.if-parse-s.true c.refusal-then-parse-s.ensures
+pub returns-then-is_done : goal.returns-then-is_done
+unfolding read_operation_by taken refused read ended
+returns-then-is_done c = grind (arith, common_steps)
 
-pub returns : goal.returns
-returns c =
-    Parsing.whole-read _ c.number_at-f.ensures
-    c.in-Got.is
-    c.arguments-parse.ensures c.if-parse-ne0.false
-    c.if-parse-s.false refl refl
+pub returns-else-is_done : goal.returns-else-is_done
+unfolding read_operation_by taken refused read ended
+returns-else-is_done c = grind (arith, common_steps)

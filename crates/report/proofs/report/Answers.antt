@@ -4,13 +4,8 @@ use Rattle.report.proofs.report.Goals as goal
 
 pub returns-then-line-gt-MOST_FILE : goal.returns-then-line-gt-MOST_FILE
 returns-then-line-gt-MOST_FILE c =
-    Reporting.long-file
-    c.args.line.now c.args.session.now c.args.out.now c.if-line-gt-MOST_FILE.true c.put_long.ensures
-
-pub returns-then-session-gt-MOST_SESSION : goal.returns-then-session-gt-MOST_SESSION
-returns-then-session-gt-MOST_SESSION c =
-    Reporting.long-session c.args.line.now c.args.session.now c.args.out.now c.if-line-gt-MOST_FILE.false
-    c.if-session-gt-MOST_SESSION.true c.put_long-then-session-gt-MOST_SESSION.ensures
+    Reporting.too-long c.args.line.now c.args.session.now c.args.out.now c.then-line-gt-MOST_FILE.either
+    c.put_long.ensures
 
 pub returns-then-refusal-ne0 : goal.returns-then-refusal-ne0
 returns-then-refusal-ne0 c =

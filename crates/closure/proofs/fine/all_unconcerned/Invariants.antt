@@ -1,18 +1,14 @@
 -- `closure::fine::all_unconcerned` meets its contract: the words below o are set. Assumes nothing.
 use lib.ListN.{length, get_or}
 use mathlib.Core.Path.{◌≡◌}
-use Prim.Native.Nat.{ℕ, ◌≤◌, ◌<◌, ◌-◌, ◌+◌}
-use Rattle.model.specs.Config.{most_devices}
-use Rattle.closure.specs.Search.{FineWord}
-use Rattle.scene.specs.Scene.{object_slots}
+use Prim.Native.Nat.{ℕ, ◌≤◌, ◌<◌}
 use Rattle.scene.specs.Rules.{naming}
+use Rattle.scene.specs.Scene.{object_slots}
+use Rattle.closure.specs.Search.{FineWord}
 use Rattle.closure.proofs.fine.all_unconcerned.Given as goal
 
 abbrev pub invariant-loop-o : goal.invariant-loop-o
 invariant-loop-o l =
-    (1 ≤ l.o) × (l.o ≤ l.last + 1) × (length l.f ≡ object_slots)
-    × ((d : ℕ) → d ≤ most_devices → (j : ℕ) → 1 ≤ j → j < l.o → FineWord (naming l.concerned l.but) d j
-    (get_or l.f j 0))
-
-abbrev pub decreases-loop-o : goal.decreases-loop-o
-decreases-loop-o l = l.last + 1 - l.o
+    (length l.f ≡ object_slots)
+    × ((j : ℕ) → 1 ≤ j → j < l.o
+    → FineWord (naming l.concerned l.but) l.config.counts.devices j (get_or l.f j 0))

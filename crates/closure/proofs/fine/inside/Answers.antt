@@ -1,12 +1,16 @@
 -- `closure::fine::inside` meets its contract: the devices of the object's partition, or none. Assumes nothing.
 use mathlib.Core.Path.{◌∙◌}
-use Rattle.model.specs.State.{view}
-use Rattle.closure.proofs.Finding.{fine-inside}
+use Rattle.state.specs.Shown.{shown}
+use Rattle.closure.proofs.Finding.{fine_hardcoded, fine_inside}
 use Rattle.closure.proofs.fine.inside.Goals as goal
 
-pub returns : goal.returns
-returns c =
-    fine-inside c.args.kind.now (view c.args.room c.args.area.now) c.args.devices c.args.o
-    c.wide-p.result c.pick.result c.args.parts.now c.requires.parts
-    (c.wide-p.ensures.0 ∙ c.object_in.ensures)
-    c.pick.ensures
+pub returns-then-config-o-eq-HARDCODED_KIND : goal.returns-then-config-o-eq-HARDCODED_KIND
+returns-then-config-o-eq-HARDCODED_KIND c =
+    fine_hardcoded c.args.config.now.objects.kind (shown c.args.area.now) c.args.config.now.counts.devices c.args.o
+    c.if-config-o-eq-HARDCODED_KIND.true
+
+pub returns-else-config-o-eq-HARDCODED_KIND : goal.returns-else-config-o-eq-HARDCODED_KIND
+returns-else-config-o-eq-HARDCODED_KIND c =
+    fine_inside c.args.config.now.objects.kind (shown c.args.area.now) c.args.config.now.counts.devices c.args.o
+    c.if-config-o-eq-HARDCODED_KIND.false c.from-p.result c.args.parts.now c.requires.parts
+    (c.from-p.ensures ∙ c.object_in.ensures)

@@ -1,30 +1,22 @@
--- `config::devices::read_device` meets its contract: each field goes on or is refused; the stores compute to
--- `set_device`. Assumes nothing.
-use mathlib.Core.Path.{refl, ap, ◌∙◌}
-use Rattle.model.specs.ConfigFile.{device_to, stop, read, set_device}
-use Rattle.config.specs.Readings.{as_field}
+-- `config::devices::read_device` meets its contract: a serial is a number of the row or absent. Assumes nothing.
+use Rattle.std.proofs.lemmas.Result.{err_from_is_err_and}
+use Rattle.model.specs.ConfigFile.{device_to, stop, read, set_device, on_field}
 use Rattle.config.proofs.Readers
 use Rattle.config.proofs.devices.read_device.Goals as goal
 
-pub returns-in_default : goal.returns-in_default
-unfolding device_to stop read set_device
-returns-in_default c =
-    Readers.on_stop _ _ _ c.quick_field-f.ensures c.in_default.is
-    (rw c.refused.ensures)
-
-pub returns-in_default-g : goal.returns-in_default-g
-unfolding device_to stop read set_device
-returns-in_default-g c =
-    Readers.on_go _ _ _ c.quick_field-f.ensures
-    c.in-Value.is
-    (Readers.on_stop _ _ _ c.read_serial-g.ensures
-    (ap as_field c.in_default-g.is) (rw c.refused_wide.ensures)
-    ∙ Readers.serial-row _ _ _ _ _)
+pub returns-in_err-serial : goal.returns-in_err-serial
+unfolding device_to stop on_field
+returns-in_err-serial c =
+    let p = err_from_is_err_and c.from_residual-in_err-serial.result c.from_residual-in_err-serial.ensures.1 in
+    rw (
+      p.1,
+      p.2,
+      ← c.in_ok-hardcoded.ensures,
+      ← Readers.serial_row c.args.s.now _ _ _ _,
+      ← c.in_err-serial.ensures,
+    )
 
 pub returns : goal.returns
-unfolding device_to stop read set_device
+unfolding device_to read set_device on_field
 returns c =
-    Readers.on_go _ _ _ c.quick_field-f.ensures
-    c.in-Value.is
-    (Readers.on_go _ _ _ c.read_serial-g.ensures (ap as_field c.in-Large.is) refl
-    ∙ Readers.serial-row _ _ _ _ _)
+    rw (← c.in_ok-hardcoded.ensures, ← Readers.serial_row c.args.s.now _ _ _ _, ← c.in_ok-serial.ensures)

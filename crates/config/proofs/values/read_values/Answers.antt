@@ -1,26 +1,12 @@
--- `config::values::read_values` meets its contract: the turns from i on, from the place and the columns as they are
--- now, are those from the start. Assumes nothing.
+-- `config::values::read_values` meets its contract: the refusal of a turn ends the turns. Assumes nothing.
 use mathlib.Core.Path.{sym, ◌∙◌}
+use Rattle.std.proofs.lemmas.Result.{err_from_is_err_and}
 use Rattle.config.proofs.Readers
-use borrow.Author.Rules.{rules}
 use Rattle.config.proofs.values.read_values.Goals as goal
 
-pub loop-i-init : goal.loop-i-init
-loop-i-init c = (search rules, Readers.turns-start _ _ 0 _ _)
-
-pub returns-in_default : goal.returns-in_default
-returns-in_default c =
-    sym (Readers.turns-stop _ _ _ _ _ c.loop-i-test.true
-    c.read_value-r.ensures c.in_default.is)
-    ∙ c.loop-i.invariant.1
-
-pub loop-i-preserved : goal.loop-i-preserved
-loop-i-preserved c = (
-  search rules,
-  sym (Readers.turns_go _ _ _ _ _ c.loop-i-test.true
-      c.read_value-r.ensures c.in-At.is)
-      ∙ c.loop-i.invariant.1,
-)
-
-pub returns : goal.returns
-returns c = sym (Readers.turns_end _ _ _ _ _ c.loop-i-test.false) ∙ c.loop-i.invariant.1
+pub returns-in_err-at : goal.returns-in_err-at
+returns-in_err-at c =
+    let p = err_from_is_err_and c.from_residual.result c.from_residual.ensures.1 in
+    rw (p.1, p.2)
+    (sym (Readers.ahead_stop _ _ _ _ _ c.loop-v.auto.v c.loop-v-test.true _ c.in_err-at.ensures)
+    ∙ c.loop-v.invariant)

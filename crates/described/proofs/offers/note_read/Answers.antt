@@ -4,10 +4,10 @@ use mathlib.Core.Path.{refl, ◌∙◌, sym}
 use Rattle.described.proofs.Offering.{put_none, put_if, put_same}
 use Rattle.described.proofs.offers.note_read.Goals as goal
 
-pub returns-then-not-is_reading : goal.returns-then-not-is_reading
-returns-then-not-is_reading c = put_none _ _ (sym c.is_reading.ensures ∙ c.if-not-is_reading.true)
+pub returns-then-is_reading : goal.returns-then-is_reading
+returns-then-is_reading c =
+    put_if _ _ (sym c.is_reading.ensures ∙ c.if-is_reading.true)
+    (put_same c.from.ensures refl c.put.ensures)
 
-pub returns : goal.returns
-returns c =
-    put_if _ _ (sym c.is_reading.ensures ∙ c.if-not-is_reading.false)
-    (put_same c.wide.ensures.0 refl c.put.ensures)
+pub returns-else-is_reading : goal.returns-else-is_reading
+returns-else-is_reading c = put_none _ _ (sym c.is_reading.ensures ∙ c.if-is_reading.false)

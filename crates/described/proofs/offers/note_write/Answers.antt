@@ -4,10 +4,10 @@ use mathlib.Core.Path.{◌∙◌, sym}
 use Rattle.described.proofs.Offering.{put_none, put_if, put_same}
 use Rattle.described.proofs.offers.note_write.Goals as goal
 
-pub returns-then-not-is_writing : goal.returns-then-not-is_writing
-returns-then-not-is_writing c = put_none _ _ (sym c.is_writing.ensures ∙ c.if-not-is_writing.true)
+pub returns-then-is_writing : goal.returns-then-is_writing
+returns-then-is_writing c =
+    put_if _ _ (sym c.is_writing.ensures ∙ c.if-is_writing.true)
+    (put_same c.from.ensures c.from-w.ensures c.put.ensures)
 
-pub returns : goal.returns
-returns c =
-    put_if _ _ (sym c.is_writing.ensures ∙ c.if-not-is_writing.false)
-    (put_same c.wide.ensures.0 c.wide-w.ensures.0 c.put.ensures)
+pub returns-else-is_writing : goal.returns-else-is_writing
+returns-else-is_writing c = put_none _ _ (sym c.is_writing.ensures ∙ c.if-is_writing.false)

@@ -4,7 +4,4 @@ use Rattle.described.proofs.Offering.{put_one}
 use Rattle.described.proofs.offers.put.Goals as goal
 
 pub returns : goal.returns
-returns c =
-    put_one c.args.table.now c.args.o c.args.k c.power.result
-    (omega (arith, c.requires.table_len, c.requires.o_le_most_objects))
-    c.power.ensures
+returns c = put_one c.args.table.now c.args.o c.args.k c.power.result (omega arith) c.power.ensures

@@ -1,129 +1,87 @@
 -- `described::today::offered` meets its contract: what is seen is read, and what is not to be done is followed and put
 -- down. Assumes nothing.
 use lib.Bits.{or_lt}
-use mathlib.Core.Bool.{false}
-use mathlib.Core.Path.{◌≡◌, refl, ◌∙◌}
+use mathlib.Core.Path.{◌≡◌, refl, subst}
 use native.Mathlib.Omega.{arith}
 use Prim.Native.Nat.{ℕ, ◌≤◌}
-use Rattle.model.specs.declared.Devices.{Devices}
-use Rattle.model.specs.State.{State, view}
-use Rattle.model.specs.declared.Counts.{Counts}
-use mathlib.Core.List.{List}
+use Rattle.state.specs.Shown.{shown}
 use Rattle.scene.specs.Digits.{bit}
-use Rattle.scene.specs.Scene.{Scene, scene_of}
+use Rattle.scene.specs.Scene.{Scene, In}
+use Rattle.scene.proofs.Digits.{bit_zero}
 use Rattle.scene.proofs.Ranges.{owners_of}
-use Rattle.described.proofs.Describing.{seeing_start, seeing_more, today_of_lem, today_none, today_less}
+use Rattle.described.specs.Today.{today}
+use Rattle.described.proofs.Describing.{seeing_start, seeing_more, seen_known, today_of_lem, today_none, today_less}
 use Rattle.described.proofs.Offering.{noting_start, noting_more, offered_none, offered_of}
 use Rattle.described.proofs.today.offered.Goals as goal
+use Rattle.described.proofs.today.offered.Goals.{
+  then-device-eq0-via-then-device-eq0,
+  then-device-eq0-via-else-device-eq0+then-from-device,
+}
 
-abbrev scene : Counts → List ℕ → List ℕ → List ℕ → List ℕ → List ℕ → State → Devices → Scene
-scene counts kind class owner count entries state d = scene_of d counts kind class owner count entries false state
+pub returns-then-device-eq0 : goal.returns-then-device-eq0
+returns-then-device-eq0 c =
+    let m : Scene = today c.args.config.now (shown c.args.area.now) in
+    let out : In c.args.config.now.counts.devices c.args.device → ⊥ =
+    elim c.then-device-eq0.branch [
+      | then-device-eq0-via-then-device-eq0 w ↦ λ i. omega (arith, i.low)
+      | then-device-eq0-via-else-device-eq0+then-from-device w ↦ λ i. omega (arith, i.high, w.from.ensures)
+    ] in
+    offered_none m c.args.device (today_none m c.args.device (owners_of m c.requires.owners) out)
 
-pub returns-then-device-lt1 : goal.returns-then-device-lt1
-returns-then-device-lt1 c =
-    λ d. offered_none (scene c.args.counts c.args.kind.now c.args.class.now c.args.owner.now c.args.count.now
-    c.args.entries.now
-    (view c.args.room c.args.area.now) d) c.args.device
-    (today_none (scene c.args.counts c.args.kind.now c.args.class.now c.args.owner.now c.args.count.now
-    c.args.entries.now
-    (view c.args.room c.args.area.now) d) c.args.device
-    (owners_of (scene c.args.counts c.args.kind.now c.args.class.now c.args.owner.now c.args.count.now
-    c.args.entries.now
-    (view c.args.room c.args.area.now) d) c.requires.owners_ok) (λ i. omega (arith, i.low)))
+pub owned_values-seen-requires-clause-device : goal.owned_values-seen-requires-clause-device
+owned_values-seen-requires-clause-device c =
+    record { low = omega arith; high = omega (arith, c.requires.values.few-devices) }
 
-pub returns-then-counts-device : goal.returns-then-counts-device
-returns-then-counts-device c =
-    λ d. offered_none (scene c.args.counts c.args.kind.now c.args.class.now c.args.owner.now c.args.count.now
-    c.args.entries.now
-    (view c.args.room c.args.area.now) d) c.args.device
-    (today_none (scene c.args.counts c.args.kind.now c.args.class.now c.args.owner.now c.args.count.now
-    c.args.entries.now
-    (view c.args.room c.args.area.now) d) c.args.device
-    (owners_of (scene c.args.counts c.args.kind.now c.args.class.now c.args.owner.now c.args.count.now
-    c.args.entries.now
-    (view c.args.room c.args.area.now) d) c.requires.owners_ok) (λ i. omega (arith, i.high)))
-
-pub owned_values-seen-requires-clause-area_ok : goal.owned_values-seen-requires-clause-area_ok
-owned_values-seen-requires-clause-area_ok c = c.requires.area_ok
-
-pub owned_values-seen-requires-clause-fact : goal.owned_values-seen-requires-clause-fact
-owned_values-seen-requires-clause-fact c = record
-    { low = omega arith; high = omega (arith, c.requires.values_ok.few-devices) }
-
-pub loop-counts-init : goal.loop-counts-init
-loop-counts-init c =
-    let x = c.owned_values-seen.result in (
-      omega arith,
-      refl,
-      λ d. (
-        seeing_start (scene c.args.counts c.args.kind.now c.args.class.now c.args.owner.now c.args.count.now
-            c.args.entries.now
-            (view c.args.room c.args.area.now) d) c.args.device x c.owned_values-seen.ensures,
-        noting_start
-            (scene c.args.counts c.args.kind.now c.args.class.now c.args.owner.now c.args.count.now c.args.entries.now
-            (view c.args.room c.args.area.now) d) x,
-      ),
-    )
-
-pub next-v-requires : goal.next-v-requires
-next-v-requires c = omega arith
-
-pub returns-then-last-v : goal.returns-then-last-v
-returns-then-last-v c =
-    let b = c.loop-counts in
-    let none : (v : ℕ) → v ≤ c.args.counts.values → bit b.todo v ≡ 1 → ⊥ =
-    λ v h e. c.next-v.ensures.clear v (omega arith) (omega arith) e in
-    λ d. offered_of (scene c.args.counts c.args.kind.now c.args.class.now c.args.owner.now c.args.count.now
-    c.args.entries.now
-    (view c.args.room c.args.area.now) d) c.args.device b.seen b.todo b.t c.requires.values_ok
-    (today_of_lem (scene c.args.counts c.args.kind.now c.args.class.now c.args.owner.now c.args.count.now
-    c.args.entries.now
-    (view c.args.room c.args.area.now) d) c.args.device refl c.requires.area_ok.held_known b.seen b.todo
-    (b.invariant.2 d).0 none)
-    none (b.invariant.2 d).1
-
-pub opened_values-requires-clause-values_ok : goal.opened_values-requires-clause-values_ok
-opened_values-requires-clause-values_ok c = c.requires.values_ok
-
-pub opened_values-requires-clause-area_ok : goal.opened_values-requires-clause-area_ok
-opened_values-requires-clause-area_ok c = c.requires.area_ok
-
-pub opened_values-requires-clause-table_len : goal.opened_values-requires-clause-table_len
-opened_values-requires-clause-table_len c = c.loop-counts.invariant.1
+pub loop-todo-init : goal.loop-todo-init
+loop-todo-init c =
+    let m : Scene = today c.args.config.now (shown c.args.area.now) in
+    let x = c.owned_values-seen.result in
+    record {
+      small = omega arith;
+      seeing = seeing_start m c.args.device x c.owned_values-seen.ensures;
+      noting = noting_start m x;
+    }
 
 pub opened_values-requires-clause-v_le_values : goal.opened_values-requires-clause-v_le_values
-opened_values-requires-clause-v_le_values c = omega arith
+opened_values-requires-clause-v_le_values c =
+    let b = c.loop-todo in
+    omega (
+      arith,
+      seen_known (today c.args.config.now (shown c.args.area.now)) c.args.device refl c.requires.held.held_known
+          b.seen b.todo c.lowest-v.result b.invariant.seeing c.lowest-v.ensures.result_value,
+    )
 
-pub clear-requires-clause-k_bound : goal.clear-requires-clause-k_bound
-clear-requires-clause-k_bound c = let n = c.next-v in omega (arith, c.requires.values_ok.few-values)
-
-pub clear-requires-clause-k_value : goal.clear-requires-clause-k_value
-clear-requires-clause-k_value c = let n = c.next-v in n.ensures.is_set (omega (arith, c.requires.values_ok.few-values))
-
-pub loop-counts-smaller : goal.loop-counts-smaller
-loop-counts-smaller c =
-    let b = c.loop-counts in
+pub loop-todo-smaller : goal.loop-todo-smaller
+loop-todo-smaller c =
+    let b = c.loop-todo in
     today_less b.seen b.todo c.clear.result c.without-new.result
-    c.opened_values.result b.invariant.0 (omega arith) (omega arith)
+    c.opened_values.result b.invariant.small (omega arith) (omega arith)
     c.clear.ensures.less c.without-new.ensures
 
-pub loop-counts-preserved : goal.loop-counts-preserved
-loop-counts-preserved c =
-    let b = c.loop-counts in
-    let n = c.next-v in
+pub loop-todo-preserved : goal.loop-todo-preserved
+loop-todo-preserved c =
+    let m : Scene = today c.args.config.now (shown c.args.area.now) in
+    let b = c.loop-todo in
+    let v = c.lowest-v.result in
     let f = c.opened_values.ensures in
-    let here = n.ensures.is_set (omega (arith, c.requires.values_ok.few-values)) in (
-      or_lt 64 b.seen c.without-new.result b.invariant.0 (omega arith),
-      f.noted_all.long ∙ b.invariant.1,
-      λ d. (
-        seeing_more (scene c.args.counts c.args.kind.now c.args.class.now c.args.owner.now c.args.count.now
-            c.args.entries.now
-            (view c.args.room c.args.area.now) d) c.args.device b.seen b.todo c.clear.result c.without-new.result
-            n.result c.opened_values.result c.requires.values_ok (omega arith) here c.clear.ensures
-            c.without-new.ensures f.opened_words (b.invariant.2 d).0,
-        noting_more (scene c.args.counts c.args.kind.now c.args.class.now c.args.owner.now c.args.count.now
-            c.args.entries.now
-            (view c.args.room c.args.area.now) d) b.seen b.todo c.clear.result c.without-new.result n.result
-            ((b.invariant.2 d).0.within n.result here) c.clear.ensures f.noted_all (b.invariant.2 d).1,
-      ),
-    )
+    let here = c.lowest-v.ensures.result_value in
+    let known : v ≤ c.args.config.now.counts.values = seen_known m c.args.device refl
+    c.requires.held.held_known b.seen b.todo v b.invariant.seeing here in
+    record {
+      small = or_lt 64 b.seen c.without-new.result b.invariant.small (omega arith);
+      seeing = seeing_more m c.args.device b.seen b.todo c.clear.result c.without-new.result v
+          c.opened_values.result c.requires.values known here c.clear.ensures
+          c.without-new.ensures f.opened_words b.invariant.seeing;
+      noting = noting_more m b.seen b.todo c.clear.result c.without-new.result v
+          (b.invariant.seeing.within v here) c.clear.ensures f.noted_all b.invariant.noting;
+    }
+
+pub returns : goal.returns
+returns c =
+    let m : Scene = today c.args.config.now (shown c.args.area.now) in
+    let b = c.loop-todo in
+    let none : (v : ℕ) → v ≤ c.args.config.now.counts.values → bit b.todo v ≡ 1 → ⊥ =
+    λ v h e. bit_zero v (subst (λ (d : ℕ). bit d v ≡ 1) c.loop-todo-test.false e) in
+    offered_of m c.args.device b.seen b.todo b.t c.requires.values
+    (today_of_lem m c.args.device refl c.requires.held.held_known b.seen b.todo b.invariant.seeing none)
+    none b.invariant.noting

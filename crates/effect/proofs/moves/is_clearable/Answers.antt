@@ -1,9 +1,12 @@
 -- `effect::moves::is_clearable` meets its contract: a law for each way out. Assumes nothing.
-use Rattle.effect.proofs.Moving.{clear_none, clear_some}
+use borrow.Author.Rules.{rules}
+use Rattle.effect.specs.Moves.{clearable}
 use Rattle.effect.proofs.moves.is_clearable.Goals as goal
 
-pub returns-then-not-clears : goal.returns-then-not-clears
-returns-then-not-clears c = search clear_none
+pub returns-then-clears : goal.returns-then-clears
+unfolding clearable
+returns-then-clears c = search rules
 
-pub returns : goal.returns
-returns c = search clear_some
+pub returns-else-clears : goal.returns-else-clears
+unfolding clearable
+returns-else-clears c = search rules

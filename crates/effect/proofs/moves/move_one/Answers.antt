@@ -1,12 +1,12 @@
 -- `effect::moves::move_one` meets its contract: a law for each way out. Assumes nothing.
-use Rattle.effect.proofs.Moving.{turn_none, turn_move, turn_clear}
+use mathlib.Core.Path.{sym, ◌∙◌}
+use Rattle.effect.proofs.Moving.{turn_move, turn_clear}
 use Rattle.effect.proofs.moves.move_one.Goals as goal
 
-pub returns-then-not-hit : goal.returns-then-not-hit
-returns-then-not-hit c = search turn_none
+pub returns-then-is_clearable : goal.returns-then-is_clearable
+returns-then-is_clearable c =
+    turn_clear _ _ _ _ _ _ _ (sym c.is_clearable.ensures ∙ c.if-is_clearable.true) c.set_object.ensures c.clear.ensures
 
-pub returns-then-clears : goal.returns-then-clears
-returns-then-clears c = search turn_clear
-
-pub returns-else-clears : goal.returns-else-clears
-returns-else-clears c = search turn_move
+pub returns-else-is_clearable : goal.returns-else-is_clearable
+returns-else-is_clearable c =
+    turn_move _ _ _ _ _ _ (sym c.is_clearable.ensures ∙ c.if-is_clearable.false) c.set_object.ensures

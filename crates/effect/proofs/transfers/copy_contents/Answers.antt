@@ -4,7 +4,7 @@ use Rattle.effect.proofs.Carrying.{copy_answer, copy_whole}
 use Rattle.effect.proofs.transfers.copy_contents.Goals as goal
 
 pub returns-clause-area_after : goal.returns-clause-area_after
-returns-clause-area_after c = search copy_whole
+returns-clause-area_after c = copy_whole _ _ _ _ _ _ c.read_out.ensures c.store_copies.ensures
 
 pub returns-clause-answer_after : goal.returns-clause-answer_after
-returns-clause-answer_after c = search copy_answer
+returns-clause-answer_after c = copy_answer _ _ _ _ c.args.answer.now _ c.read_out.ensures

@@ -1,12 +1,12 @@
--- `green::rule::enters_keeping` meets its contract: a law for each way out. Assumes nothing.
-use Rattle.green.proofs.Ruling
+-- `green::rule::enters_keeping` meets its contract: by the actor, the zone and the device. Assumes nothing.
+use borrow.Author.Rules.{rules}
+use Rattle.model.specs.Questions.{q22}
 use Rattle.green.proofs.rule.enters_keeping.Goals as goal
 
-pub returns-then-not-is_by_device : goal.returns-then-not-is_by_device
-returns-then-not-is_by_device c = λ m. search Ruling.enters-other
-
 pub returns-then-not-is_green : goal.returns-then-not-is_green
-returns-then-not-is_green c = λ m. search Ruling.enters_plain
+unfolding q22
+returns-then-not-is_green c = search rules
 
-pub returns : goal.returns
-returns c = λ m. search Ruling.enters-green
+pub returns-else-not-is_green : goal.returns-else-not-is_green
+unfolding q22
+returns-else-not-is_green c = search rules

@@ -1,10 +1,17 @@
--- `questions::names::judge_names` meets its contract: the answers are put together as in the definition. Assumes
+-- `questions::names::judge_names` meets its contract: the questions are asked in the definition's order. Assumes
 -- nothing.
-use Rattle.questions.proofs.Judging
+use borrow.Author.Rules.{rules}
+use Rattle.questions.specs.Items.{names_no}
 use Rattle.questions.proofs.names.judge_names.Goals as goal
 
+pub returns-in_err-ask : goal.returns-in_err-ask
+unfolding names_no
+returns-in_err-ask c = search rules
+
+pub returns-in_err-ask-2 : goal.returns-in_err-ask-2
+unfolding names_no
+returns-in_err-ask-2 c = search rules
+
 pub returns : goal.returns
-returns c m =
-    Judging.names_asked _ _ _ _ c.actor_named-actor.ensures c.partition_named-partition.ensures
-    c.items_named-items.ensures c.items_apart-q12.ensures c.items_fit-q13.ensures
-    c.ask.ensures c.ask-2.ensures c.ask-3.ensures
+unfolding names_no
+returns c = search rules

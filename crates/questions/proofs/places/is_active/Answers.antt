@@ -1,18 +1,15 @@
--- `questions::places::is_active` meets its contract: each arm of the match is the definition's. Assumes nothing.
-use mathlib.Core.Path.{◌∙◌}
-use lib.Dec.{eqb}
-use Rattle.questions.proofs.Judging
+-- `questions::places::is_active` meets its contract: what `all` answers of listed objects. Assumes nothing.
+use mathlib.Core.Path.{refl, ◌∙◌}
+use borrow.Author.Rules.{rules}
+use Rattle.model.proofs.Ranges.{below_from_all}
+use Rattle.state.specs.Shown.{shown}
+use Rattle.questions.proofs.Judging.{listed, all_listed}
 use Rattle.questions.proofs.places.is_active.Goals as goal
 
-pub returns-in-Driver : goal.returns-in-Driver
-returns-in-Driver c =
-    rw (c.in-Driver.is, ← c.driver.ensures)
-    (Judging.as_wanted (eqb c.driver.result 0) c.args.wanted)
-
-pub returns-in-Device : goal.returns-in-Device
-returns-in-Device c =
-    rw (c.in-Device.is, ← c.device.ensures)
-    (Judging.as_wanted (eqb c.device.result 0) c.args.wanted)
-
 pub returns-in-External : goal.returns-in-External
-returns-in-External c = rw c.in-External.is (c.items_active.ensures ∙ Judging.items_active_lem _ _ _)
+returns-in-External c =
+    let a = c.args in
+    let b = shown a.area.now in
+    rw c.in-External.is
+    (below_from_all _ (listed b a.op.now a.wanted) _ _ _ refl c.all.ensures.ran (λ x r q k. search rules)
+    ∙ all_listed b a.op.now a.wanted)

@@ -5,4 +5,4 @@ use Rattle.scene.proofs.area.device_in.Goals as goal
 
 pub returns : goal.returns
 returns c =
-    sym (device_byte c.args.room c.args.area.now c.args.c c.requires.fact.low c.requires.fact.high)
+    sym (device_byte c.args.area.now.room c.args.area.now.bytes.now c.args.c c.requires.low c.requires.high)

@@ -6,4 +6,4 @@ use Rattle.scene.proofs.area.held_by.Goals as goal
 
 pub returns : goal.returns
 returns c =
-    sym (held_byte c.args.room c.args.area.now c.args.o c.requires.fact)
+    sym (held_byte c.args.area.now.room c.args.area.now.bytes.now c.args.o c.requires)

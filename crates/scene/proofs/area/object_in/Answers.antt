@@ -5,4 +5,4 @@ use Rattle.scene.proofs.area.object_in.Goals as goal
 
 pub returns : goal.returns
 returns c =
-    sym (object_byte c.args.room c.args.area.now c.args.o c.requires.fact.low c.requires.fact.high)
+    sym (object_byte c.args.area.now.room c.args.area.now.bytes.now c.args.o c.requires.low c.requires.high)

@@ -4,4 +4,4 @@ use Rattle.scene.proofs.rules.is_hardcoded_of.Goals as goal
 
 pub returns : goal.returns
 unfolding Rattle.scene.specs.Rules.owned
-returns c = rw (c.device_in-active.ensures, c.wide.ensures.0)
+returns c = rw (c.device_in-active.ensures, c.from.ensures)

@@ -20,7 +20,7 @@ overflow_add-result c =
     let a = c.args in
     record { fits = omega (arith, next_fits a.w a.from (omega arith) c.if-s-eq0.false) }
 
-pub returns : goal.returns
-returns c =
+pub returns-else-s-eq0 : goal.returns-else-s-eq0
+returns-else-s-eq0 c =
     let a = c.args in
     next_some a.w a.from (omega arith) c.if-s-eq0.false

@@ -1,6 +1,7 @@
--- `scene::words::without` meets its contract: the digits of b are joined, and taken away. Assumes nothing.
+-- `scene::words::without` meets its contract: the digits that b lacks are kept. Assumes nothing.
+use native.Mathlib.Omega.{arith}
 use Rattle.scene.proofs.Digits.{without_of}
 use Rattle.scene.proofs.words.without.Goals as goal
 
 pub returns : goal.returns
-returns c = without_of c.args.a c.args.b
+returns c = without_of c.args.a c.args.b (omega arith) (omega arith)

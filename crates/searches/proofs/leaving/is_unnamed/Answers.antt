@@ -1,9 +1,6 @@
 -- `searches::leaving::is_unnamed` meets its contract: the search's answer is the definition's. Assumes nothing.
-use mathlib.Core.Path.{◌∙◌}
-use Rattle.closure.proofs.Answering.{nothing_of}
+use Rattle.searches.proofs.Asking
 use Rattle.searches.proofs.leaving.is_unnamed.Goals as goal
 
 pub returns : goal.returns
-returns c =
-    c.is_nothing.ensures
-    ∙ nothing_of 19 c.naming-found.result _ (c.naming-found.ensures.result_value c.args.config.devices)
+returns c = Asking.none_of 19 _ _ _ c.is_none.ensures c.naming.ensures.result_value

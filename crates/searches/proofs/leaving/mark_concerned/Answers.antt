@@ -8,11 +8,11 @@ mark_listed-requires c =
 
 pub returns-in-Driver : goal.returns-in-Driver
 returns-in-Driver c =
-    Marking.by_driver c.args.config c.args.op c.in-Driver.is _ c.mark_owned.ensures
+    Marking.by_driver c.args.config.now c.args.op.now c.in-Driver.is _ c.mark_owned.ensures
 
 pub returns-in-Device : goal.returns-in-Device
 returns-in-Device c =
-    Marking.by_device_lem c.args.config c.args.op c.in-Device.is _ c.mark_owned-in-Device.ensures
+    Marking.by_device_lem c.args.config.now c.args.op.now c.in-Device.is _ c.mark_owned-in-Device.ensures
 
 pub returns-in-External : goal.returns-in-External
-returns-in-External c = Marking.by_list c.args.config c.args.op c.in-External.is _ c.mark_listed.ensures
+returns-in-External c = Marking.by_list c.args.config.now c.args.op.now c.in-External.is _ c.mark_listed.ensures

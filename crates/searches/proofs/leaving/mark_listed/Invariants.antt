@@ -1,14 +1,11 @@
 -- `searches::leaving::mark_listed` meets its contract: the objects listed so far are marked. Assumes nothing.
 use lib.ListN.{length}
 use mathlib.Core.Path.{◌≡◌}
-use Prim.Native.Nat.{◌-◌, ◌≤◌}
 use Rattle.searches.specs.Asking.{Marks}
 use Rattle.effect.specs.Moves.{listed}
 use Rattle.searches.proofs.Marking.{slots}
 use Rattle.searches.proofs.leaving.mark_listed.Given as goal
 
 abbrev pub invariant-loop-i : goal.invariant-loop-i
-invariant-loop-i l = (l.i ≤ l.count) × (length l.table ≡ slots) × Marks l.table (listed l.list l.i)
-
-abbrev pub decreases-loop-i : goal.decreases-loop-i
-decreases-loop-i l = l.count - l.i
+invariant-loop-i l =
+    record { long : length l.table ≡ slots; marked : Marks l.table (listed l.list l.i) }

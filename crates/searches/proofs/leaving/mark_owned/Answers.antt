@@ -1,22 +1,23 @@
--- `searches::leaving::mark_owned` meets its contract: the objects so far are marked, and none after them. Assumes
+-- `searches::leaving::mark_owned` meets its contract: the objects below n are marked, and none from n on. Assumes
 -- nothing.
-use mathlib.Core.Path.{refl}
-use Rattle.state.proofs.Splicing.{length_turn}
+use mathlib.Core.Path.{refl, ◌∙◌}
+use native.Mathlib.Omega.{arith}
+use lib.ListN.{length-set}
 use Rattle.searches.proofs.Marking
-use Rattle.searches.proofs.Marking.{slots, Upto}
-use borrow.Author.Rules.{rules}
 use Rattle.searches.proofs.leaving.mark_owned.Goals as goal
 
-pub loop-i-init : goal.loop-i-init
-loop-i-init c = (search rules, refl, Marking.owned-start _ _ _ _ _)
+pub loop-n-init : goal.loop-n-init
+loop-n-init c = record { long = refl; marked = Marking.owned-start c.args.config.now _ _ }
 
-pub loop-i-preserved : goal.loop-i-preserved
-loop-i-preserved c = (
-  search rules,
-  search length_turn,
-  Marking.owned_turn _ _ _ _ _ _ _ c.loop-i.invariant.2 c.loop-i-test.true c.requires
-      c.loop-i.invariant.1 c.is_owned.ensures c.table_mark.ensures,
-)
+pub loop-n-preserved : goal.loop-n-preserved
+loop-n-preserved c =
+    let i = c.loop-n.invariant in
+    record {
+      long = length-set _ _ _ ∙ i.long;
+      marked = rw c.from.ensures
+          (Marking.owned_turn c.args.config.now _ _ _ _ i.marked (omega arith) (omega arith) i.long c.owns.ensures);
+    }
 
 pub returns : goal.returns
-returns c = Marking.owned_end _ _ _ _ _ _ _ c.loop-i.invariant.2 c.loop-i.invariant.0 c.loop-i-test.false
+returns c =
+    Marking.owned_end c.args.config.now _ _ _ _ c.loop-n.invariant.marked (omega (arith, c.from-n-end.ensures))

@@ -1,6 +1,7 @@
--- `state::bytes::save` meets its contract: a copy of all sixteen bytes. Assumes nothing.
+-- `state::bytes::save` meets its contract: a copy into as many bytes. Assumes nothing.
+use native.Mathlib.Omega.{arith}
 use Rattle.state.proofs.Splicing.{stored}
 use Rattle.state.proofs.bytes.save.Goals as goal
 
 pub returns : goal.returns
-returns c = search stored
+returns c = stored _ _ _ _ _ c.copy_from_slice.ensures.after (omega arith)

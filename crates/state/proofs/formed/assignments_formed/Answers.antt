@@ -1,20 +1,32 @@
--- `state::formed::assignments_formed` meets its contract: after i turns the first i bytes are none or name existing
--- partitions. Assumes nothing.
-use Rattle.state.proofs.Forms.{assigned_none, assigned_on, assignments_off, assignments_many, assignments_end}
+-- `state::formed::assignments_formed` meets its contract: all drivers, then all devices. Assumes nothing.
+use mathlib.Core.Path.{refl}
 use borrow.Author.Rules.{rules}
+use Rattle.model.specs.Config.{most_drivers, most_devices}
+use Rattle.model.specs.State.{right_assignment, driver_in, device_in}
+use Rattle.model.proofs.Ranges.{every_from_all}
+use Rattle.state.specs.Shown.{shown}
+use Rattle.state.specs.Formed.{assignments_right}
+use Rattle.state.proofs.Forms.{met, unmet}
 use Rattle.state.proofs.formed.assignments_formed.Goals as goal
 
-pub loop-i-init : goal.loop-i-init
-loop-i-init c = (search rules, search assigned_none)
+pub returns-then-all : goal.returns-then-all
+unfolding assignments_right
+returns-then-all c =
+    let b = shown c.args.area.now in
+    let counts = c.args.config.now.counts in
+    met _ _ _ _ _
+    (every_from_all most_drivers (λ d. right_assignment b counts.drivers d (driver_in b d)) _ _ _ refl c.all.ensures.ran
+    (λ x r q h. search rules))
+    c.if-all.true
+    (every_from_all most_devices (λ d. right_assignment b counts.devices d (device_in b d)) _ _ _ refl
+    c.all-then-all.ensures.ran (λ x r q h. search rules))
+    refl
 
-pub returns-then-not-is_assigned : goal.returns-then-not-is_assigned
-returns-then-not-is_assigned c = search assignments_off
-
-pub loop-i-preserved : goal.loop-i-preserved
-loop-i-preserved c = (search rules, search assigned_on)
-
-pub returns-then-slots-many : goal.returns-then-slots-many
-returns-then-slots-many c = search assignments_many
-
-pub returns : goal.returns
-returns c = search assignments_end
+pub returns-else-all : goal.returns-else-all
+unfolding assignments_right
+returns-else-all c =
+    let b = shown c.args.area.now in
+    unmet _ _ _ _
+    (every_from_all most_drivers (λ d. right_assignment b c.args.config.now.counts.drivers d (driver_in b d)) _ _ _ refl
+    c.all.ensures.ran (λ x r q h. search rules))
+    c.if-all.false refl

@@ -1,34 +1,8 @@
--- `state::walk::first_bad` meets its contract: the tables are made, and the walk knows nothing of the head. Assumes
--- nothing.
-use mathlib.Core.Path.{sym}
-use mathlib.Core.Bool.{true≢false}
-use Rattle.state.proofs.Forms.{walk_whole}
-use Rattle.state.proofs.Records.{blank, named_made}
-use borrow.Author.Rules.{rules}
+-- `state::walk::first_bad` meets its contract: what the walk found, or 0. Assumes nothing.
+use mathlib.Core.Path.{ap, ◌∙◌}
+use Rattle.std.specs.Option.{unwrap_or}
+use Rattle.state.proofs.Records.{found_or_none}
 use Rattle.state.proofs.walk.first_bad.Goals as goal
 
-pub copy-requires : goal.copy-requires
-copy-requires c = (search rules, search rules)
-
-pub fill_numbered-requires-clause-slots_in_bounds : goal.fill_numbered-requires-clause-slots_in_bounds
-fill_numbered-requires-clause-slots_in_bounds c = (search rules, search rules)
-
-pub fill_numbered-requires-clause-table_len : goal.fill_numbered-requires-clause-table_len
-fill_numbered-requires-clause-table_len c = (search rules, search blank)
-
-pub fill_numbered-requires-2-clause-slots_in_bounds : goal.fill_numbered-requires-2-clause-slots_in_bounds
-fill_numbered-requires-2-clause-slots_in_bounds c = (search rules, search rules)
-
-pub fill_numbered-requires-2-clause-table_len : goal.fill_numbered-requires-2-clause-table_len
-fill_numbered-requires-2-clause-table_len c = (search rules, search blank)
-
-pub walk-requires-clause-tables : goal.walk-requires-clause-tables
-walk-requires-clause-tables c = record {
-  statuses = search named_made;
-  of_drivers = search rules;
-  of_devices = search rules;
-  good = λ h. absurd (true≢false (sym h));
-}
-
 pub returns : goal.returns
-returns c = search walk_whole
+returns c = c.unwrap_or.ensures ∙ (ap (λ r. unwrap_or r 0) c.walk.ensures ∙ found_or_none _)

@@ -2,5 +2,5 @@
 use Rattle.gate.proofs.Needed
 use Rattle.vectors.proofs.cases.formed_row.Goals as goal
 
-pub area_length-n-requires : goal.area_length-n-requires
-area_length-n-requires c = Needed.room_small _ c.room_for-room.ensures
+pub area_length-requires : goal.area_length-requires
+area_length-requires c = Needed.room_small _ c.room_for-room.ensures

@@ -2,10 +2,10 @@
 use Prim.Native.Nat.{◌<◌}
 use mathlib.Core.Path.{sym, subst}
 use Rattle.model.specs.Rewriting.{kind_unit, number_of_answer}
-use Rattle.model.specs.declared.Written.{Written}
+use Rattle.model.specs.Written.{Written}
 use Rattle.model.proofs.Rewriting.{write_number}
 use Rattle.vectors.proofs.memory.written.Goals as goal
 
-pub code_of-requires : goal.code_of-requires
-code_of-requires c =
-    subst (λ (w : Written). number_of_answer w < kind_unit) (sym c.write-w.ensures.value) (write_number _ _)
+pub code_of-answer-requires : goal.code_of-answer-requires
+code_of-answer-requires c =
+    subst (λ (w : Written). number_of_answer w < kind_unit) (sym c.write.ensures.value) (write_number _ _)

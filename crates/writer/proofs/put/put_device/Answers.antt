@@ -10,5 +10,5 @@ pub encode-requires-clause-v_le_most_number : goal.encode-requires-clause-v_le_m
 encode-requires-clause-v_le_most_number c = c.requires.serial_le_most_serial c.if-edition-lt-SERIAL_EDITION.false
 
 pub returns : goal.returns
-returns c = let (f0, f1) = Putting.device-serial _ _ _ _ _ c.put_number-p.ensures.placed
+returns c = let (f0, f1) = Putting.device_serial _ _ _ _ _ c.put_number-p.ensures.placed
     c.if-edition-lt-SERIAL_EDITION.false c.encode.ensures in record { placed = f0; upper_bound = f1 }

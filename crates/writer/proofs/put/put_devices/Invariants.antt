@@ -1,17 +1,13 @@
--- `writer::put::put_devices` meets its contract: devices 1 to i are put down. Assumes nothing.
+-- `writer::put::put_devices` meets its contract: the devices before c are put down. Assumes nothing.
 use Prim.Native.Nat.{◌+◌, ◌-◌, ◌*◌, ◌≤◌}
-use mathlib.Core.Path.{◌≡◌}
-use lib.ListN.{length}
 use Rattle.model.specs.Number.{most_bytes}
 use Rattle.model.specs.ConfigWrite.{rows_from}
 use Rattle.page.specs.Page.{Placed}
 use Rattle.writer.specs.Bytes.{device_bytes}
 use Rattle.writer.proofs.put.put_devices.Given as goal
 
-abbrev pub invariant-loop-i : goal.invariant-loop-i
-invariant-loop-i l =
-    (l.i ≤ l.n) × (length l.out ≡ length l.initial.out) × (l.p ≤ l.at + 2 * most_bytes * l.i)
-    × Placed (rows_from (device_bytes l.edition l.hardcoded l.serial) l.i 0) l.at l.initial.out l.p l.out
-
-abbrev pub decreases-loop-i : goal.decreases-loop-i
-decreases-loop-i l = l.n - l.i
+abbrev pub invariant-loop-c : goal.invariant-loop-c
+invariant-loop-c l = record {
+  near : l.p ≤ l.at + 2 * most_bytes * (l.c - 1);
+  placed : Placed (rows_from (device_bytes l.edition l.devices) (l.c - 1) 0) l.at l.initial.out l.p l.out;
+}
