@@ -10,6 +10,7 @@ use Rattle.model.specs.Config.{kind_of, descriptor, Entry, reads, writes, entrie
 use Rattle.model.specs.State.{State}
 use Rattle.model.specs.Closure.{Collected, Reads, start, stored, own, next, crosses, survey, confined, unnamed}
 use Rattle.model.specs.Questions.{ask}
+use Rattle.model.specs.declared.Devices.{Devices}
 use Rattle.model.specs.declared.Config.{Config}
 use Rattle.model.proofs.Lists.{no_both, not-true}
 use Rattle.model.proofs.Entries.{entry_place_lem}
@@ -17,6 +18,7 @@ use Rattle.model.proofs.ClosureExact.{survey_exact}
 use Rattle.scene.specs.Digits.{bit, Has}
 use Rattle.scene.specs.Rules.{opens, stores, crossing, naming}
 use Rattle.scene.specs.Scene.{Scene, entry_of, count_of, In, ValuesOk}
+use Rattle.scene.specs.Devices.{with_devices}
 use Rattle.std.specs.Prelude.{Option, Some, None}
 use Rattle.closure.specs.Words.{ReaderIn, PairIn, Sound, Closed}
 use Rattle.closure.specs.Search.{
@@ -35,6 +37,7 @@ use Rattle.closure.specs.Search.{
 }
 use Rattle.closure.specs.declared.search.Finding.{Finding}
 use Rattle.scene.proofs.Ranges.{opens_of, stores_of, entry-there}
+use Rattle.scene.proofs.Devices.{listed_any, reads_any}
 
 -- words to which no rule adds have all that the rules give
 module _ (m : Scene) (k : List ℕ) (closed : Closed m k) where
@@ -120,6 +123,19 @@ module _ (m : Scene) (k f : List ℕ) (bad : ℕ → ℕ → Bool) (ok : ValuesO
       let d = (g.readers r.0 r.2 r.3).device in
       absurd (x.strange (l n p.object (omega (arith, d.high)) some.1 (g.values w p.paired).object
       (subst (λ (n : ℕ). Has k p.object n) q r.3) p.paired x.entry x.there))
+
+-- an answer is one whatever the devices' hardcoded values and serials are
+pub answers_any : (config : Config) (b : State) (bad : ℕ → Entry → Bool) (r : Option Finding)
+    → Answers (closure_of config b) bad r → (d : Devices) → Answers (closure_of (with_devices d config) b) bad r
+answers_any config b bad (Some e) h d =
+    record {
+      read = reads_any config config.devices d h.read;
+      there = h.there;
+      listed = listed_any config config.devices d e.value h.listed;
+      is_bad = h.is_bad;
+    }
+answers_any config b bad None h d =
+    λ c o v e r l. h c o v e (reads_any config d config.devices r) (listed_any config d config.devices v l)
 
 -- an answer is the computed one
 survey-answer : (config : Config) (b : State) (bad ok : ℕ → Entry → Bool)

@@ -16,6 +16,7 @@ use Rattle.model.specs.Config.{kind_of, most_values, Entry, reads, writes, entry
 use Rattle.model.specs.State.{State}
 use Rattle.model.specs.Closure.{described}
 use Rattle.model.specs.Questions.{is_kind, read_entry, write_entry}
+use Rattle.model.specs.declared.Devices.{Devices}
 use Rattle.model.specs.declared.Config.{Config}
 use Rattle.model.proofs.Lists.{not-true, and_l, and_r, both_true}
 use Rattle.model.proofs.Lists
@@ -23,12 +24,14 @@ use Rattle.model.proofs.Entries.{entry_place_lem}
 use Rattle.model.proofs.ClosureExact.{described_exact}
 use Rattle.scene.specs.Digits.{bit, Cleared, Without, Has}
 use Rattle.scene.specs.Scene.{Scene, entry_of, count_of, In, ValuesOk, object_slots}
+use Rattle.scene.specs.Devices.{with_devices}
 use Rattle.described.specs.declared.offers.Transfer.{Transfer}
 use Rattle.described.specs.declared.offers.Transfer.TheVariants.{Read, Write}
 use Rattle.described.specs.Today.{wanted, today}
 use Rattle.described.specs.Offers.{read_digit, Offer, Put, Noted, NotedBelow, NotedAll, Offered}
 use Rattle.scene.proofs.Digits.{bit_zero, or_left, or_right, or_out, pow_bit, pow_only, some_bit}
 use Rattle.scene.proofs.Ranges.{entry-there}
+use Rattle.scene.proofs.Devices.{listed_any, reads_any}
 use Rattle.scene.proofs.Widening.{set_word, wider_set, wider_none, wider_then, no_digit}
 use Rattle.described.proofs.Describing.{Today}
 
@@ -182,6 +185,19 @@ module _ (m : Scene) where
                     (g.all v j k b i)),
               ));
         }
+
+-- a table is right whatever the devices' hardcoded values and serials are
+pub offered_any : (config : Config) (b : State) (c : ℕ) {t : List ℕ} → Offered (today config b) c t → (d : Devices)
+    → Offered (today (with_devices d config) b) c t
+offered_any config b c f d =
+    record {
+      long = f.long;
+      right = λ n k h.
+          (let (o, v, e, r, l, eo, a) = f.right n k h in
+          (o, v, e, reads_any config config.devices d r, listed_any config config.devices d v l, eo, a));
+      all = λ o v e r l.
+          f.all o v e (reads_any config d config.devices r) (listed_any config d config.devices v l);
+    }
 
 -- two tests that say yes in the same cases
 same_test : (r s : Bool) → (r ≡ true → s ≡ true) → (s ≡ true → r ≡ true) → r ≡ s

@@ -3,9 +3,11 @@
 // to find; what an entry offers is put down as it is passed.
 ghost use Rattle.std.specs.Prelude.{◌≡◌, ◌≤◌, length, get_or};
 ghost use Rattle.model.specs.Config.{most_devices, entry_at};
+ghost use Rattle.model.specs.declared.Devices.{Devices};
 ghost use Rattle.state.specs.Shown.{shown};
 ghost use Rattle.scene.specs.Rules.{holds_value};
 ghost use Rattle.scene.specs.Scene.{In, ValuesOk, AreaOk, EntryOk, Searchable, object_slots};
+ghost use Rattle.scene.specs.Devices.{with_devices};
 ghost use Rattle.described.specs.Today.{today, HeldWord, OwnedWord, OwnedWords, OpenedWord, OpenedWords};
 ghost use Rattle.described.specs.Offers.{NotedAll, Offered};
 
@@ -103,10 +105,12 @@ fn opened_values(config: &Config, area: &Area, table: &mut [u64; OBJECT_SLOTS], 
 }
 
 // What the entries of the values that the device reads with today's values offer, a word for each object. A value is
-// followed once; those that it opens join the ones that are still to be followed, so the loop is over no range.
+// followed once; those that it opens join the ones that are still to be followed, so the loop is over no range. The
+// table is right whatever the devices' hardcoded values and serials are.
 pub fn offered(config: &Config, area: &Area, device: usize) -> [u64; OBJECT_SLOTS]
     requires { Searchable config.now area.now.room (shown area.now) }
-    ensures { Offered (today config.now (shown area.now)) device result }
+    ensures offered { Offered (today config.now (shown area.now)) device result }
+    ensures offered_any { (d : Devices) → Offered (today (with_devices d config.now) (shown area.now)) device result }
 {
     let mut t = [0u64; OBJECT_SLOTS];
     if device == 0 || usize::from(config.counts.devices) < device {

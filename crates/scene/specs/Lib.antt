@@ -1,3 +1,4 @@
 pub mod Digits
 pub mod Rules
 pub mod Scene
+pub mod Devices

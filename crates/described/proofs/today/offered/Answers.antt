@@ -1,5 +1,5 @@
 -- `described::today::offered` meets its contract: what is seen is read, and what is not to be done is followed and put
--- down. Assumes nothing.
+-- down, whatever the devices' hardcoded values and serials are. Assumes nothing.
 use lib.Bits.{or_lt}
 use mathlib.Core.Path.{◌≡◌, refl, subst}
 use native.Mathlib.Omega.{arith}
@@ -11,7 +11,7 @@ use Rattle.scene.proofs.Digits.{bit_zero}
 use Rattle.scene.proofs.Ranges.{owners_of}
 use Rattle.described.specs.Today.{today}
 use Rattle.described.proofs.Describing.{seeing_start, seeing_more, seen_known, today_of_lem, today_none, today_less}
-use Rattle.described.proofs.Offering.{noting_start, noting_more, offered_none, offered_of}
+use Rattle.described.proofs.Offering.{noting_start, noting_more, offered_none, offered_of, offered_any}
 use Rattle.described.proofs.today.offered.Goals as goal
 use Rattle.described.proofs.today.offered.Goals.{
   then-device-eq0-via-then-device-eq0,
@@ -26,7 +26,8 @@ returns-then-device-eq0 c =
       | then-device-eq0-via-then-device-eq0 w ↦ λ i. omega (arith, i.low)
       | then-device-eq0-via-else-device-eq0+then-from-device w ↦ λ i. omega (arith, i.high, w.from.ensures)
     ] in
-    offered_none m c.args.device (today_none m c.args.device (owners_of m c.requires.owners) out)
+    let f = offered_none m c.args.device (today_none m c.args.device (owners_of m c.requires.owners) out) in
+    record { offered = f; offered_any = offered_any c.args.config.now (shown c.args.area.now) c.args.device f }
 
 pub owned_values-seen-requires-clause-device : goal.owned_values-seen-requires-clause-device
 owned_values-seen-requires-clause-device c =
@@ -82,6 +83,7 @@ returns c =
     let b = c.loop-todo in
     let none : (v : ℕ) → v ≤ c.args.config.now.counts.values → bit b.todo v ≡ 1 → ⊥ =
     λ v h e. bit_zero v (subst (λ (d : ℕ). bit d v ≡ 1) c.loop-todo-test.false e) in
-    offered_of m c.args.device b.seen b.todo b.t c.requires.values
+    let f = offered_of m c.args.device b.seen b.todo b.t c.requires.values
     (today_of_lem m c.args.device refl c.requires.held.held_known b.seen b.todo b.invariant.seeing none)
-    none b.invariant.noting
+    none b.invariant.noting in
+    record { offered = f; offered_any = offered_any c.args.config.now (shown c.args.area.now) c.args.device f }
