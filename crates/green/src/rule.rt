@@ -3,6 +3,7 @@ ghost use Rattle.std.specs.Prelude.{◌≡◌, ◌≤◌, ◌<◌};
 ghost use Rattle.model.specs.Config.{entry_at};
 ghost use Rattle.model.specs.Questions.{zone_of, quiet_entry, ringless, green_entry, green_value, green_item};
 ghost use Rattle.model.specs.Questions.{green_items, q22};
+ghost use Rattle.model.specs.declared.Config.{Config};
 ghost use Rattle.model.specs.declared.Family.TheVariants.{Activate};
 ghost use Rattle.state.specs.Shown.{shown};
 ghost use Rattle.sound.specs.Sound.{far_place};
@@ -111,10 +112,15 @@ fn enters_keeping(config: &Config, area: &Area, op: &Operation, a: Actor) -> boo
     !is_by_device(a) || !area.is_green(op.partition) || is_ringless(config, op.subject)
 }
 
-// 22, of an operation of any family: of writes and copies by what they store, of activations by what comes in.
+// 22, of an operation of any family: of writes and copies by what they store, of activations by what comes in. Of the
+// configuration it looks at kinds, hardcoded values, entry counts and entries: this is the answer by any with these.
 pub fn keeps_rule(config: &Config, area: &Area, op: &Operation, f: Family, a: Actor) -> bool
     requires { Narrow config.now.objects.kind op.now f }
-    ensures { result ≡ q22 config.now (shown area.now) op.now f a }
+    ensures value { result ≡ q22 config.now (shown area.now) op.now f a }
+    ensures by_columns { (m : Config) → m.objects.kind ≡ config.now.objects.kind
+        → m.devices.hardcoded ≡ config.now.devices.hardcoded
+        → m.values.count ≡ config.now.values.count → m.values.entries ≡ config.now.values.entries
+        → result ≡ q22 m (shown area.now) op.now f a }
 {
     match f {
         Family::Write | Family::Copy => stores_keep(config, area, op, f, a),

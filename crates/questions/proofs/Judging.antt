@@ -107,3 +107,19 @@ module _ (config : Config) (b : State) (op : Operation) (f : Family) (a : Actor)
       (ask 22 (q22 config b op f a) (ask 21 (q21 config b op f a) 0)))))
   unfolding first_no names_no places_no judge
   judge-first = refl
+
+-- these questions look at counts, kinds and classes, and at nothing else of a configuration
+module _ (config : Config) (b : State) (op : Operation) (f : Family) (a : Actor) where
+  same_first : (m : Config) → m.counts ≡ config.counts → m.objects.kind ≡ config.objects.kind
+      → m.objects.class ≡ config.objects.class → first_no m b op f a 0 ≡ first_no config b op f a 0
+  unfolding first_no names_no q11 q13
+  same_first m counts kinds classes = λ i.
+      first_no (record m {
+        counts = counts i;
+        objects = record m.objects { kind = kinds i; class = classes i };
+      }) b op f a 0
+
+  pub first_by_columns : {r : ℕ} → r ≡ first_no config b op f a 0
+      → (m : Config) → m.counts ≡ config.counts → m.objects.kind ≡ config.objects.kind
+      → m.objects.class ≡ config.objects.class → r ≡ first_no m b op f a 0
+  first_by_columns h m counts kinds classes = h ∙ sym (same_first m counts kinds classes)
