@@ -65,7 +65,7 @@ and-false : (b : Bool) → b && false ≡ false
 and-false true = refl
 and-false false = refl
 
-least : (n : ℕ) → leb 0 n ≡ true
+pub least : (n : ℕ) → leb 0 n ≡ true
 least n = le-leb 0 n (omega arith)
 
 -- ---- the tests of a row

@@ -8,7 +8,7 @@ ghost use Rattle.sound.specs.Columns.{Within};
 ghost use Rattle.config.specs.Readings.{progress, serial_at};
 
 use crate::fields::{read_field, read_number};
-use model::{Counts, Devices, MOST_NUMBER, Question, SERIAL_EDITION};
+use model::{Counts, Devices, MOST_SERIAL, Question, SERIAL_EDITION};
 
 // The serial in a file of an edition that has serials; in an older one it is 0, and takes no byte.
 #[tactic(auto, using(crate::proofs::Readers::serial_laws))]
@@ -18,7 +18,7 @@ fn read_serial(s: &[u8], edition: u32, at: usize) -> Result<(u32, usize), Questi
     if edition < SERIAL_EDITION {
         return Ok((0, at));
     }
-    let (serial, next) = read_number(s, at, 0, MOST_NUMBER)?;
+    let (serial, next) = read_number(s, at, 0, MOST_SERIAL as usize)?;
     Ok((serial as u32, next))
 }
 

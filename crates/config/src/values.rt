@@ -38,7 +38,7 @@ fn entry_by_fields(
 {
     let (o, at) = read_field(s, at, 1, counts.objects)?;
     let (mode, at) = read_field(s, at, 1, MOST_MODE)?;
-    let (stored, at) = read_field(s, at, 0, stored_most(counts, objects, o, mode))?;
+    let (stored, at) = read_field(s, at, 0, stored_most(counts, &objects.kind, o, mode))?;
     put_entry(values, v, j, o, mode, stored);
     Ok(at)
 }
