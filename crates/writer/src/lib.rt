@@ -9,6 +9,7 @@ mod ranges;
 ghost use Rattle.std.specs.Prelude.{◌≡◌, ◌<◌, length};
 ghost use Rattle.model.specs.Answers.{answer_of, written_of};
 ghost use Rattle.model.specs.ConfigWrite.{write_question, write_answer, write_area};
+ghost use Rattle.model.specs.Written.{Refused};
 ghost use Rattle.model.specs.Rewriting.{kind_unit, number_of_answer, coded, rewrite_answer, rewrite_area};
 
 use model::{Config, Question, Unwritten};
@@ -63,6 +64,14 @@ pub fn rewrite(line: &[u8], out: &mut [u8]) -> Result<usize, Unwritten>
     write(&config, out)
 }
 
+// A refusal by the question of a number as a number that C takes apart again.
+#[tactic(auto, using(crate::proofs::Writing::code_laws))]
+pub fn refusal_code(question: u8) -> u64
+    ensures { result ≡ coded (Refused question) }
+{
+    REFUSED_KIND * KIND_UNIT + u64::from(question)
+}
+
 // An answer as a number that C takes apart again.
 #[tactic(auto, using(crate::proofs::Writing::code_laws))]
 pub fn code_of(w: Result<usize, Unwritten>) -> u64
@@ -71,7 +80,7 @@ pub fn code_of(w: Result<usize, Unwritten>) -> u64
 {
     match w {
         Ok(n) => n as u64,
-        Err(Unwritten::Refused(q)) => REFUSED_KIND * KIND_UNIT + q.number() as u64,
+        Err(Unwritten::Refused(q)) => refusal_code(q.number()),
         Err(Unwritten::Short(n)) => SHORT_KIND * KIND_UNIT + n as u64,
     }
 }
