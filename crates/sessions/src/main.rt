@@ -4,13 +4,18 @@
 
 #![tactic(auto)]
 
+ghost use Rattle.std.specs.Prelude.{◌≡◌, ◌+◌, ◌*◌, ◌<◌};
+
 use files::read_full;
 use report::{MOST_TEXT, report_whole};
 
 const MOST_INPUT: usize = 196608;
 
 // A number in two bytes, lower byte first.
-fn two(low: u8, high: u8) -> usize {
+fn two(low: u8, high: u8) -> usize
+    ensures value { result ≡ low + 256 * high }
+    ensures upper_bound { result < 65536 }
+{
     usize::from(u16::from_le_bytes([low, high]))
 }
 

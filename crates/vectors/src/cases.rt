@@ -1,5 +1,5 @@
 // One stored case: what is called, and the row that it gives.
-ghost use Rattle.std.specs.Prelude.{◌≡◌, ◌≤◌, ◌<◌, length};
+ghost use Rattle.std.specs.Prelude.{◌≡◌, ◌+◌, ◌*◌, ◌≤◌, ◌<◌, length, get_or};
 ghost use Rattle.model.specs.Config.{most_objects};
 ghost use Rattle.model.specs.State.{area_length};
 
@@ -104,7 +104,8 @@ impl Row {
 
 // A number in two bytes, lower byte first.
 pub(crate) fn two(bytes: [u8; 2]) -> usize
-    ensures { result < 65536 }
+    ensures value { result ≡ get_or bytes 0 0 + 256 * get_or bytes 1 0 }
+    ensures upper_bound { result < 65536 }
 {
     usize::from(u16::from_le_bytes(bytes))
 }
@@ -122,10 +123,10 @@ fn mix(sum: u64, x: u64) -> u64
 }
 
 // A checksum, taken on by some numbers.
-pub(crate) fn sum<T: Copy + Into<u64>>(sum: u64, numbers: &[T]) -> u64 {
-    numbers
-        .iter()
-        .fold(sum % SUM_BASE, |sum, x| mix(sum, (*x).into()))
+pub(crate) fn sum<T: Copy + Into<u64>>(sum: u64, numbers: &[T]) -> u64
+    ensures { result < 65521 }
+{
+    numbers.iter().fold(sum, |sum, x| mix(sum, (*x).into())) % SUM_BASE
 }
 
 fn sum_operation(op: &Operation) -> u64 {
@@ -178,7 +179,9 @@ fn needed(file: &[u8]) -> usize
 }
 
 // Three bytes each: a place in two bytes, and what stands there.
-fn patch(area: &mut [u8], patches: &[u8]) {
+fn patch(area: &mut [u8], patches: &[u8])
+    ensures { length area.new ≡ length area.old }
+{
     for patch in patches.chunks_exact(PATCH_BYTES) {
         if let Some(byte) = area.get_mut(two([patch[0], patch[1]])) {
             *byte = patch[2];
