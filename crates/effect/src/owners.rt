@@ -5,8 +5,7 @@ ghost use Rattle.effect.specs.Moves.{owned_by};
 
 use model::{Config, byte_at};
 
-// Is object n one of driver k (class 1) or of device k (class 2), by columns of any length? No test ends it early, so
-// that a loop over objects takes many at a time.
+// Is object n one of driver k (class 1) or of device k (class 2), by columns of any length? No test ends it early.
 pub fn is_owned(objects: usize, class: &[u8], owner: &[u8], a: u8, k: usize, n: usize) -> bool
     ensures { result ≡ owned_by objects class.now owner.now a k n }
 {

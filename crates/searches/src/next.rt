@@ -1,6 +1,6 @@
 // Questions 19 and 21: in the state that would follow no entry crosses.
 ghost use Rattle.std.specs.Prelude.{◌≡◌, ◌&&◌, ◌≤◌, length, replicate};
-ghost use Rattle.model.specs.Config.{most_objects};
+ghost use Rattle.model.specs.Config.{small_room, most_objects};
 ghost use Rattle.model.specs.State.{area_length, layout, view};
 ghost use Rattle.model.specs.Effect.{answer_bytes};
 ghost use Rattle.model.specs.Closure.{confined};
@@ -20,18 +20,34 @@ use model::{Actor, Config, Family, Operation, SMALL_ROOM};
 use state::area::Area;
 use state::{AREA_BYTES, SMALL_AREA_BYTES};
 
+// How much of a scratch area is lent for an area's copy: a small room's whole, so that the compiler sees that the copy
+// overwrites all of it; of the longest as much as the area at hand has.
+#[inline(always)]
+fn lent(scratch: usize, area: usize) -> usize
+    requires { scratch ≤ area_length small_room → area ≡ scratch }
+    ensures { result ≡ area }
+{
+    if scratch <= SMALL_AREA_BYTES {
+        scratch
+    } else {
+        area
+    }
+}
+
 // No entry in the closure crosses in the area after an operation, which is made in a scratch area of N bytes: clearing
 // the longest for every room would cost a small line a third of its call.
 fn is_confined_in<const N: usize>(config: &Config, area: &Area, op: &Operation) -> bool
     requires long { length area.now.bytes.now ≤ N }
+    requires whole { N ≤ area_length small_room → length area.now.bytes.now ≡ N }
     requires most { N ≤ area_length most_objects }
     requires fit { Fit area.now.room op.now area.now.bytes.now (replicate answer_bytes 0) }
     requires searchable { Searchable config.now area.now.room (applied config.now op.now (shown area.now)) }
     ensures { result ≡ confined config.now (applied config.now op.now (shown area.now)) }
 {
     let mut scratch = [0u8; N];
-    let next = &mut scratch[..area.bytes.len()];
-    next.copy_from_slice(area.bytes);
+    let size = lent(N, area.bytes.len());
+    let next = &mut scratch[..size];
+    next.copy_from_slice(&area.bytes[..size]);
     let mut spare = [0u8; ANSWER_BYTES];
     carry_out(next, area.room, config, op, &mut spare);
     let after = Area {

@@ -307,15 +307,16 @@ module _ (config : Config) (b : State) where
   unfolding first_bad
   next n h e = rw (keeps n h, e)
 
-  here : (room : ℕ) (r : Option ℕ) → MatchOption r ((x : ℕ) → 1 ≤ x → x < room + 1 → right_object config b x ≡ true)
+  pub first_found : (room : ℕ) (r : Option ℕ)
+      → MatchOption r ((x : ℕ) → 1 ≤ x → x < room + 1 → right_object config b x ≡ true)
       (λ n. (1 ≤ n) × (n < room + 1) × (right_object config b n ≡ false)
       × ((x : ℕ) → 1 ≤ x → x < n → right_object config b x ≡ true)) → r ≡ found (first_bad room config b)
   unfolding found
-  here room None h =
+  first_found room None h =
       let e : first_bad room config b ≡ 0 = keeps room (λ x l m. h x l (omega arith)) in
       rw e
-  here room (Some zero) h = absurd (omega (arith, h.0))
-  here room (Some (suc n)) h =
+  first_found room (Some zero) h = absurd (omega (arith, h.0))
+  first_found room (Some (suc n)) h =
       let e : first_bad room config b ≡ suc n =
       first_bad_stays config b (suc n) room (omega (arith, h.1)) n (next n (λ x l m. h.3 x l (omega arith)) h.2) in
       rw e
@@ -329,7 +330,7 @@ module _ (config : Config) (b : State) where
       → ((x : ℕ) (q : F) → CalledAt g f x false q → (q ≡ f) × (right_object config b x ≡ true))
       → r ≡ found (first_bad room config b)
   walk_found {s} room u f r e d bad good =
-      here room r (subst (λ (t : Range ℕ). MatchOption r
+      first_found room r (subst (λ (t : Range ℕ). MatchOption r
       ((x : ℕ) → t.start ≤ x → x < t.end → right_object config b x ≡ true)
       (λ n. (t.start ≤ n) × (n < t.end) × (right_object config b n ≡ false)
       × ((x : ℕ) → t.start ≤ x → x < n → right_object config b x ≡ true))) e

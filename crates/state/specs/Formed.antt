@@ -1,6 +1,6 @@
 -- The parts of question 9, each as one test that the code answers.
-use Rattle.std.specs.Prelude.{ℕ, zero, suc, Option, None, Some, ◌≡◌, List, Bool, true, not, ◌&&◌, ◌||◌}
-use Rattle.std.specs.Prelude.{get_or, leb, eqb}
+use Rattle.std.specs.Prelude.{ℕ, zero, suc, Option, None, Some, ◌≡◌, List, Bool, true, false, not, ◌&&◌, ◌||◌}
+use Rattle.std.specs.Prelude.{get_or, leb, eqb, replicate}
 use Rattle.model.specs.Base.{all, every}
 use Rattle.model.specs.Config.{most_drivers, most_devices, kind_of, owner_of, hardcoded_of}
 use Rattle.model.specs.State.{
@@ -62,6 +62,13 @@ byte_values = 256
 -- the owner's is
 unfoldable pub at_home : Tables → ℕ → ℕ → Bool
 at_home t p home = eqb p home && (t.housed || stands (get_or t.named p 0))
+
+-- tables of which nothing is put down yet
+pub record IsBlank (t : Tables) : Type 0 where
+  pub named : t.named ≡ replicate byte_values 0
+  pub drivers : t.drivers ≡ replicate byte_values 0
+  pub devices : t.devices ≡ replicate byte_values 0
+  pub housed : t.housed ≡ false
 
 -- what the tables say of a state: a status that stands for 0 and for every existing partition, and for no other number;
 -- the partitions of drivers and of devices; and, if the head was found good, that these are none or exist

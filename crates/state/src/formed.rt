@@ -6,7 +6,7 @@ ghost use Rattle.state.specs.Formed.{statuses_right, assignments_right, TablesOf
 
 use crate::area::Area;
 use crate::locks::locks_formed;
-use crate::tables::{Tables, tables_of};
+use crate::tables::Tables;
 use crate::walk::walk;
 use crate::{DEVICE_BYTES, DRIVER_BYTES, MOST_STATUS, PARTITIONS};
 use model::{Config, Counts};
@@ -65,7 +65,8 @@ fn is_head_formed(area: &Area, config: &Config, tables: &Tables) -> bool
 pub fn is_formed(area: &Area, config: &Config) -> bool
     ensures { result ≡ well_formed area.now.room config.now (shown area.now) }
 {
-    let mut tables = tables_of(area);
+    let mut tables = Tables::blank();
+    tables.fill(area);
     tables.housed = is_head_formed(area, config, &tables);
     tables.housed && walk(area, config, &tables).is_none()
 }

@@ -12,9 +12,10 @@ fn store_hardcoded(area: &mut [u8], room: usize, config: &Config, n: usize)
     requires { length area.old ≡ area_length room }
     ensures { area.new ≡ layout (valued config.now n (view room area.old)) }
 {
-    if n <= usize::from(config.counts.objects)
-        && byte_at(&config.objects.kind, n) == HARDCODED_KIND
-    {
+    if usize::from(config.counts.objects) < n {
+        return;
+    }
+    if byte_at(&config.objects.kind, n) == HARDCODED_KIND {
         let o = byte_at(&config.objects.owner, n);
         let v = byte_at(&config.devices.hardcoded, usize::from(o));
         store(area, room, n, value_bytes(v));
@@ -27,8 +28,8 @@ fn store_values(area: &mut [u8], room: usize, config: &Config)
     ensures { area.new ≡ layout (fresh room config.now) }
 {
     let present = room.min(usize::from(config.counts.objects));
-    for n in 1..present + 1 {
-        store_hardcoded(area, room, config, n);
+    for before in 0..present {
+        store_hardcoded(area, room, config, before + 1);
     }
 }
 

@@ -3,7 +3,7 @@
 ghost use Rattle.std.specs.Prelude.{◌≡◌, get_or};
 ghost use Rattle.model.specs.State.{stands};
 ghost use Rattle.state.specs.Shown.{shown};
-ghost use Rattle.state.specs.Formed.{at_home, TablesOf};
+ghost use Rattle.state.specs.Formed.{at_home, IsBlank, TablesOf};
 
 use crate::area::Area;
 use crate::bytes::save;
@@ -23,32 +23,40 @@ pub(crate) struct Tables {
     pub(crate) housed: bool,
 }
 
-// The tables of an area whose head may be anything.
-pub(crate) fn tables_of(area: &Area) -> Tables
-    ensures { TablesOf (shown area.now) result }
-{
-    let mut tables = Tables {
-        named: [0u8; BYTE_VALUES],
-        drivers: [0u8; BYTE_VALUES],
-        devices: [0u8; BYTE_VALUES],
-        housed: false,
-    };
-    save(&mut tables.named, 0, &area.bytes[..PARTITIONS]);
-    tables.named[0] = EXISTING;
-    save(
-        &mut tables.drivers,
-        1,
-        &area.bytes[DRIVERS_FROM..DEVICES_FROM],
-    );
-    save(
-        &mut tables.devices,
-        1,
-        &area.bytes[DEVICES_FROM..RECORDS_FROM],
-    );
-    tables
-}
-
 impl Tables {
+    // Tables of which nothing is put down yet.
+    #[inline(always)]
+    pub(crate) fn blank() -> Tables
+        ensures { IsBlank result }
+    {
+        Tables {
+            named: [0u8; BYTE_VALUES],
+            drivers: [0u8; BYTE_VALUES],
+            devices: [0u8; BYTE_VALUES],
+            housed: false,
+        }
+    }
+
+    // The tables of an area whose head may be anything, put down in place, since they are large.
+    #[inline(always)]
+    pub(crate) fn fill(&mut self, area: &Area)
+        requires { IsBlank self.old }
+        ensures { TablesOf (shown area.now) self.new }
+    {
+        save(&mut self.named, 0, &area.bytes[..PARTITIONS]);
+        self.named[0] = EXISTING;
+        save(
+            &mut self.drivers,
+            1,
+            &area.bytes[DRIVERS_FROM..DEVICES_FROM],
+        );
+        save(
+            &mut self.devices,
+            1,
+            &area.bytes[DEVICES_FROM..RECORDS_FROM],
+        );
+    }
+
     // A partition byte is 0 or names an existing partition.
     pub(crate) fn is_assigned(&self, p: u8) -> bool
         ensures { result ≡ stands (get_or self.now.named p 0) }

@@ -5,7 +5,7 @@ ghost use Rattle.state.specs.Shown.{shown};
 ghost use Rattle.state.specs.Formed.{is_value, is_value_to, content_right, place_right, TablesOf, found};
 
 use crate::area::Area;
-use crate::tables::{Tables, tables_of};
+use crate::tables::Tables;
 use model::{
     CONTENT_BYTES, Config, DEVICE_CLASS, DRIVER_CLASS, HARDCODED_KIND, TRANSFER_KIND, byte_at,
 };
@@ -25,6 +25,7 @@ fn is_value_to(c: [u8; CONTENT_BYTES], most: u8) -> bool
 }
 
 // The contents of object n, which is present, read out by value where they are tested. Those of kinds 2 and 3 are free.
+#[inline(always)]
 fn is_filled(area: &Area, config: &Config, n: usize) -> bool
     ensures { result ≡ content_right config.now (shown area.now) n }
 {
@@ -40,6 +41,7 @@ fn is_filled(area: &Area, config: &Config, n: usize) -> bool
 }
 
 // The partition of object n, which is present: its owner's, if it has one; and none, or one that exists.
+#[inline(always)]
 fn is_placed(area: &Area, config: &Config, tables: &Tables, n: usize) -> bool
     requires { TablesOf (shown area.now) tables.now }
     ensures { result ≡ place_right config.now (shown area.now) n }
@@ -55,6 +57,7 @@ fn is_placed(area: &Area, config: &Config, tables: &Tables, n: usize) -> bool
 
 // The record of object n: its partition, and its contents, which are read out by value, once, where they are tested; of
 // an absent object all bytes are 0.
+#[inline(always)]
 fn is_right(area: &Area, config: &Config, tables: &Tables, n: usize) -> bool
     requires { TablesOf (shown area.now) tables.now }
     ensures { result ≡ right_object config.now (shown area.now) n }
@@ -68,16 +71,25 @@ fn is_right(area: &Area, config: &Config, tables: &Tables, n: usize) -> bool
 
 // The walk: one record after the other, from the first to the last of the room, up to the first that breaks a rule.
 // Its number, if there is one.
+#[inline(always)]
 pub(crate) fn walk(area: &Area, config: &Config, tables: &Tables) -> Option<usize>
     requires { TablesOf (shown area.now) tables.now }
     ensures { result ≡ found (first_bad area.now.room config.now (shown area.now)) }
 {
-    (1..area.room + 1).find(|n| !is_right(area, config, tables, *n))
+    for before in 0..area.room {
+        let n = before + 1;
+        if !is_right(area, config, tables, n) {
+            return Some(n);
+        }
+    }
+    None
 }
 
 // The number of the first object record that breaks a rule of question 9, or 0, whatever stands in the head.
 pub fn first_bad(area: &Area, config: &Config) -> usize
     ensures { result ≡ first_bad area.now.room config.now (shown area.now) }
 {
-    walk(area, config, &tables_of(area)).unwrap_or(0)
+    let mut tables = Tables::blank();
+    tables.fill(area);
+    walk(area, config, &tables).unwrap_or(0)
 }

@@ -1,6 +1,8 @@
 -- `searches::next::is_confined_in` meets its contract: what is searched shows the state that would follow. Assumes
 -- nothing.
 use mathlib.Core.Path.{◌≡◌, ◌∙◌, sym, ap, subst}
+use native.Mathlib.Omega.{arith}
+use Rattle.std.proofs.lemmas.List.{take_all}
 use Rattle.model.specs.Closure.{confined}
 use Rattle.model.specs.Gate.{applied}
 use Rattle.model.specs.State.{view}
@@ -16,7 +18,10 @@ after : (g : _) (c : After-carry_out g) → view c.args.area.now.room c.carry_ou
     ≡ applied c.args.config.now c.args.op.now (shown c.args.area.now)
 after g c =
     Readying.next-view c.args.config.now c.args.op.now c.args.area.now.room c.args.area.now.bytes.now
-    (rw c.copy_from_slice.ensures.after at c.carry_out.ensures.area_after)
+    (rw (
+      c.copy_from_slice.ensures.after,
+      take_all c.lent-size.result c.args.area.now.bytes.now (omega (arith, c.lent-size.ensures)),
+    ) at c.carry_out.ensures.area_after)
 
 pub crossing-requires : goal.crossing-requires
 crossing-requires g c =

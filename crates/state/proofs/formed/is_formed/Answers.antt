@@ -5,9 +5,9 @@ use Rattle.state.proofs.formed.is_formed.Goals as goal
 
 pub walk-requires : goal.walk-requires
 walk-requires c = record {
-  statuses = c.tables_of-tables.ensures.statuses;
-  of_drivers = c.tables_of-tables.ensures.of_drivers;
-  of_devices = c.tables_of-tables.ensures.of_devices;
+  statuses = c.fill.ensures.statuses;
+  of_drivers = c.fill.ensures.of_drivers;
+  of_devices = c.fill.ensures.of_devices;
   good = housed _ _ _ _ c.is_head_formed.ensures;
 }
 
