@@ -9,7 +9,7 @@ ghost use Rattle.operation.specs.Reader.{reader_at, Reads, ReadsRaw};
 
 use model::{CONTENT_BYTES, MOST_ITEMS};
 
-#[derive(Drop)]
+#[derive(Clone, Copy)]
 pub struct Reader<'a> {
     src: &'a [u8],
     at: usize,
